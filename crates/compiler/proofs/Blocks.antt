@@ -274,12 +274,9 @@ heights-agree : (text : List ℕ) (sc : Scope) (h : ℕ) (ls : T.Locals) → Fin
 unfolding locals heightAfter H.heightWith FineLocals
 heights-agree text sc h T.noLocals f = refl
 heights-agree text sc h (T.vector n c ls) f = heights-agree text (declared sc n (N.local h)) (h + 2 + judgedWord (forVector text sc c)) ls (f .1)
-heights-agree text sc h (T.values ns es ls) f = let ls′ = locals text (declareAll sc h ns) (h + length ns) ls in
-    rw (
-      values-before 0 h 0 (expressions text sc h es) ls′ .3,
-      count-is text sc h ns es (sym (f .2)),
-      heights-agree text (declareAll sc h ns) (h + length ns) ls (f .1),
-    )
+heights-agree text sc h (T.values ns es ls) f = let sc′ = declareAll sc h ns in let k = h + length ns in
+    let v = values-before 0 h 0 (expressions text sc h es) (locals text sc′ k ls) .3 in
+    rw (v, count-is text sc h ns es (sym (f .2)), heights-agree text sc′ k ls (f .1))
 
 module _ {s : List ℕ} {end : ℕ} {here : Here} {st : State} (n : Node) (nd : NodeAt s end n) (q : getD s (end - 1) 0 ≡ 57) {middle : ℕ}
     (m : middle ≡ n .start + n .value) where

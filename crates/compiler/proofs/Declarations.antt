@@ -109,10 +109,6 @@ module _ (text : List ℕ) {s₀ : List ℕ} {from end top height : ℕ} {st₀ 
       → (top + 2 * k + 2 ≤ length s) × (height + k < 2 ^ 29) × (at < 2 ^ 32) × (top + 2 * k + 2 ≤ y .base) × FineName (nameAt s at)
   unfolding FineNames
   names-fit k l y p = let u = is-names (p .left .rest) (p .left .lies) (p .left .ends) l in
-      let c : k + 1 + length (u .more) ≡ length (y .names) = omega (arith, ap length (u .same)) in (
-        omega arith,
-        omega arith,
-        omega arith,
-        omega arith,
-        subst FineName (sym (keeps-name (p .left .keeps) (omega arith) ∙ u .is)) (subst FineNames (u .same) (p .fine) .0),
-      )
+      let c : k + 1 + length (u .more) ≡ length (y .names) = omega (arith, ap length (u .same)) in
+      let f = subst FineName (sym (keeps-name (p .left .keeps) (omega arith) ∙ u .is)) (subst FineNames (u .same) (p .fine) .0) in
+      (omega arith, omega arith, omega arith, omega arith, f)

@@ -165,16 +165,8 @@ least-min x k (f ∷ a) =
 least-swap : (x : ℕ) (a b : List Fault) → least x (a ++ b) ≡ least x (b ++ a)
 unfolding least
 least-swap x [] b = ap (least x) (sym (append-nil b))
-least-swap x (f ∷ a) b =
-    cc (
-      step-min (key f) x,
-      least-swap (min x (key f)) a b,
-      least-min x (key f) (b ++ a),
-      least-then x b a,
-      least-min (least x b) (key f) a,
-      step-min (key f) (least x b),
-      least-then x b (f ∷ a),
-    )
+least-swap x (f ∷ a) b = let k = key f in let s = step-min k x in let t = step-min k (least x b) in let m = least-min x k (b ++ a) in
+    cc (s, t, m, least-swap (min x k) a b, least-then x b a, least-min (least x b) k a, least-then x b (f ∷ a))
 
 pub same-swap : (a b : List Fault) → Same (a ++ b) (b ++ a)
 same-swap a b =

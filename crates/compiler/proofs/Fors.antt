@@ -5,15 +5,14 @@ use Rattle.items.specs.Item as I
 use Rattle.language.specs.Kinds as K
 use Rattle.language.specs.Tree as T
 use Rattle.compiler.proofs.Language.{Name, Constant, Expression, Command, Unlabelled, depth, commandDepth, unlabelledDepth, Scope, opened}
-use Rattle.compiler.proofs.Language.{declared, Fault, judgedWord, faultsOf, expression, command, unlabelled, byOf, ofExpr, ofCmd, FineName}
-use Rattle.compiler.proofs.Language.{FineBy, FineUnlabelled, byFaults, inExpression, inUnlabelled, encode, encodeName, encodeBy, encodeCommand}
-use Rattle.compiler.proofs.Language.{encodeUnlabelled}
+use Rattle.compiler.proofs.Language.{declared, Fault, judgedWord, faultsOf, expression, command, unlabelled, byOf, ofCmd, FineName, FineBy}
+use Rattle.compiler.proofs.Language.{FineUnlabelled, byFaults, inUnlabelled, encode, encodeName, encodeBy, encodeCommand, encodeUnlabelled}
 use Rattle.language.specs.Names as N
 use Rattle.language.specs.Resolved as R
 use Rattle.code.specs.Generate as G
 use Rattle.compiler.proofs.Vocabulary.{Shows, Keeps, Pushed, PushedName, nameAt, State, Here, Ways, Node, FineE, FineC, FinePlain, raised}
-use Rattle.compiler.proofs.Vocabulary.{placed, inLoop, leavableBy, exits, NodeAt, Code, Did, Emits, Fresh, Lies, ReadyE, GaveE, Verdict}
-use Rattle.compiler.proofs.Vocabulary.{cmdSays, ReadyC, GaveC, ReadyU, GaveU, byJudged, JudgesBy}
+use Rattle.compiler.proofs.Vocabulary.{placed, inLoop, leavableBy, NodeAt, Code, Did, Emits, Fresh, Lies, ReadyE, GaveE, Verdict, cmdSays}
+use Rattle.compiler.proofs.Vocabulary.{ReadyC, GaveC, ReadyU, GaveU, byJudged, JudgesBy}
 use Rattle.compiler.proofs.Common.{keeps-all, keeps-then, keeps-shows, keeps-name, name-there, pushed-keeps, did-emit, did-put, did-then}
 use Rattle.compiler.proofs.Common.{did-as, did-at, did-fresh, same-refl, same-eq, code-is, first, second, keeps-lies, sub, moved, with-ways}
 use Rattle.compiler.specs.Commands.{nothing}
@@ -82,18 +81,6 @@ did-judged : {fs gs : List Fault} {f : ℕ → Code} {m : ℕ} {t t₁ : List �
 did-judged {f = f} {m} x y =
     did-as f m (did-then x y) same-refl (λ n e. code-is (append-nil (f n .items)) (append-nil (f n .heights)) (omega arith)) (omega arith)
 
-abbrev tests : (L h by : ℕ) → List I.Item
-tests L h by = I.label L ∷ G.LIP h ∷ G.LIP (h + 1) ∷ G.X (G.limitAct by) ∷ G.FL (L + 2) ∷ []
-
-abbrev steps : (L h by : ℕ) → List I.Item
-steps L h by = I.label (L + 1) ∷ G.LIP h ∷ G.A by ∷ G.SP h ∷ G.JL L ∷ I.label (L + 2) ∷ []
-
-for-shape : (e a f b t c p : List I.Item) → (((((e ++ a) ++ f) ++ b) ++ t) ++ c) ++ p ≡ e ++ (a ++ (f ++ (b ++ (t ++ (c ++ p)))))
-for-shape e a f b t c p = simp append-assoc
-
-heights-shape : (e a f b c : List ℕ) → (((e ++ a) ++ f) ++ b) ++ c ≡ (e ++ (a ++ f)) ++ (b ++ c)
-heights-shape e a f b c = simp append-assoc
-
 module _ {s : List ℕ} {end : ℕ} {here : Here} {st : State} (n b l : Node) {le : ℕ} (nd : NodeAt s end n) (bd : NodeAt s (n .inner) b)
     (el : le ≡ b .start - n .value) (ld : NodeAt s le l) (q : getD s (end - 1) 0 ≡ K.FOR) where
   pub for-is : (y : ReadyU s end here st) → IsFor s (y .lo) end (y .tree)
@@ -157,11 +144,9 @@ module _ {s : List ℕ} {end : ℕ} {here : Here} {st : State} (n b l : Node) {l
 
       pub for-labels : (y : ReadyU s end here st)
           → (m .label ≤ st .label + 3 + 2 * length (encode (for-is y .start)) + 2 * length (encode (for-is y .limit))) × (st .label ≤ m .label)
-      for-labels y = let x = g .by (for-first e y) in let z = g₂ .by (for-limit y) in let w = bl .by
-          (byJudged text (y .scope) (for-is y .by)) (for-says y) t₄ in (
-            omega arith,
-            omega (arith, e .label, x .did .grows, f .label, z .did .grows, f₂ .label, w .grows, f₃ .label),
-          )
+      for-labels y = let x = g .by (for-first e y) in let z = g₂ .by (for-limit y) in
+          let w = bl .by (byJudged text (y .scope) (for-is y .by)) (for-says y) t₄ in
+          (omega arith, omega (arith, e .label, x .did .grows, f .label, z .did .grows, f₂ .label, w .grows, f₃ .label))
 
       module _ {s₃ s₄ : List ℕ} {x₄ : ℕ} (p : Pushed s₂ s₃ (here .top) 0 0) (p₂ : PushedName s₃ s₄ (here .top + 2) (n .start) x₄)
           (ex : x₄ ≡ here .height * 4 + 1) where
@@ -194,30 +179,18 @@ module _ {s : List ℕ} {end : ℕ} {here : Here} {st : State} (n b l : Node) {l
         for-gave ways {s₅} {t₆} {t₇} {o} {r} g₃ f₄ = record {
           by = λ y.
               let u = for-is y in let x = g .by (for-first e y) in let z = g₂ .by (for-limit y) in let w = g₃ .by (for-body y) in let sc = y .scope in
-              let h = here .height in let L = st .label in let S = here .strings in let lv = leavableBy ways here in
+              let h = here .height in let L = st .label in let lv = leavableBy ways here in
               let sc′ = declared (opened sc) (u .name) (N.local h) in let E = expression text sc h (u .start) in
               let D = expression text sc (h + 1) (u .limit) in let C = command text sc′ (h + 2) (u .body) in let B = byOf text sc (u .by) in
-              let w′ = exits (inLoop (L + 1) (L + 2) ways) in let eb : v .word ≡ B = says-word _ (for-says y) ∙ by-word text sc (u .by) in
+              let eb : v .word ≡ B = says-word _ (for-says y) ∙ by-word text sc (u .by) in
               let eh : h + 1 + 1 ≡ h + 2 = omega arith in
               let ec : L + 3 + (G.exprLabels E + G.exprLabels D) ≡ L + 3 + G.exprLabels E + G.exprLabels D = omega arith in
               let ll = leaves-loop here ways (L + 1) (L + 2) (omega arith) in let bf = bl .by (byJudged text sc (u .by)) (for-says y) t₄ in
-              let EC = G.exprCode S h (L + 3) E in let DC = G.exprCode S (h + 1) (L + 3 + G.exprLabels E) D in
-              let in₃ = (inExpression text sc lv h (u .start) ++ inExpression text sc lv (h + 1) (u .limit)) in
               rw (u .same) (record {
                 keeps = after-block (omega arith) (for-block-keeps y) (w .keeps);
                 did = did-at (cmdSays here ways (R.for E D B C)) _ (did-fresh e
                     (did-put (did-then (did-put (did-judged (did-emit (did-then (did-emit (with-ways text sc here ways h (u .start) (x .did)) f)
-                    (with-ways text sc here ways (h + 1) (u .limit) (z .did))) f₂) bf) f₃) (w .did)) f₄)) (same-eq (rw (
-                      by-faults text sc (u .by),
-                      ll,
-                    ))) (λ _. code-is (rw (
-                      for-shape EC (G.SP h ∷ []) DC (G.SP (h + 1) ∷ []) (tests L h (v .word))
-                          (G.cmdCode S (h + 2) (L + 3 + (G.exprLabels E + G.exprLabels D)) w′ C) (steps L h (v .word)),
-                      eb,
-                      ec,
-                    )) (rw (
-                      heights-shape (ofExpr h E) ((h + 1) ∷ []) (ofExpr (h + 1) D) ((h + 1 + 1) ∷ []) (ofCmd (h + 2) C),
-                      eh,
-                    )) (omega arith)) (omega (arith, ap (λ (v : Unlabelled). length (encodeUnlabelled v)) (u .same)));
+                    (with-ways text sc here ways (h + 1) (u .limit) (z .did))) f₂) bf) f₃) (w .did)) f₄)) (same-eq (rw (by-faults text sc (u .by), ll)))
+                    (λ _. code-is (simp (append-assoc, eb, ec)) (simp (append-assoc, eh)) (omega arith)) (omega (arith, ap (λ (v : Unlabelled). length (encodeUnlabelled v)) (u .same)));
               });
         }

@@ -27,12 +27,8 @@ is-declaration {s} {at} (d ∷ p) h e l =
 
 pub no-declaration : {at end : ℕ} (p : Program) → end ≡ at + length (encodeProgram p) → end ≤ at → p ≡ []
 no-declaration [] e l = refl
-no-declaration (d ∷ p) e l =
-    absurd (omega (
-      arith,
-      ap length (program-step d p),
-      length-append (length (encodeDeclared d) ∷ declaredWord d ∷ encodeDeclared d) (encodeProgram p),
-    ))
+no-declaration (d ∷ p) e l = let a = ap length (program-step d p) in
+    absurd (omega (arith, a, length-append (length (encodeDeclared d) ∷ declaredWord d ∷ encodeDeclared d) (encodeProgram p)))
 
 -- the functions of one declaration
 abbrev ownCount : Declaration → ℕ

@@ -26,11 +26,8 @@ pub parted : {s : List ℕ} {lo end : ℕ} (f : Function) → Lies s lo (encodeF
 unfolding encodeName
 parted {s} {lo} f h e = let name : List ℕ = encodeName (f .name) in let names = encodeNames (f .parameters) in let body = encodeBody (f .body) in
     let w = name ++ (names ++ body) in let v = length names in let k = bodyWord (f .body) in let inner = kid w v 0 k h e in let rest = second name
-    (names ++ body) (lo + 4) inner refl in let z : length w ≡ 4 + length names + length body = omega (
-      arith,
-      length-append name (names ++ body),
-      length-append names body,
-    ) in
+    (names ++ body) (lo + 4) inner refl in
+    let z : length w ≡ 4 + length names + length body = omega (arith, length-append name (names ++ body), length-append names body) in
     record {
       lies-names = first names body rest;
       lies-body = second names body (lo + 4 + length names) rest refl;

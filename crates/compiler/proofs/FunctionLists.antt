@@ -83,12 +83,8 @@ pub yields-then : {strings l : ℕ} (k : ℕ) {fs fs′ : List Fault} {gs gs′ 
 yields-then {strings} {l} k {fs} {fs′} {gs} {gs′} {m} {m′} {t} {t₁} {t₂} {d} {d₁} {d₂} e x y = record {
   did = did-as (functionsSays strings l (funs (gs ++ gs′))) (m + m′) (did-then (x .did) (y .did)) same-refl (λ n c. says-then strings l n gs gs′ e)
       (omega arith);
-  tall = λ c. rw (
-    y .tall (nil-right fs fs′ c),
-    x .tall (nil-left fs fs′ c),
-    least-then (d .tall) (heightFaults gs) (heightFaults gs′),
-    heights-then gs gs′,
-  );
+  tall = λ c. let i = y .tall (nil-right fs fs′ c) in let j = x .tall (nil-left fs fs′ c) in
+      rw (i, j, least-then (d .tall) (heightFaults gs) (heightFaults gs′), heights-then gs gs′);
   fits = subst AllFit (sym (heights-then gs gs′)) (fit-then (x .fits) (y .fits));
 }
 
@@ -136,13 +132,8 @@ yields-one text sc start strings l f {m} {tall} {tall′} {place} {t} {t′} {st
 
 pub functions-step : (f : Function) (fs : List Function) → 10 + length (encodeFunctions fs) ≤ length (encodeFunctions (f ∷ fs))
 unfolding encodeFunctions encodeName
-functions-step f fs = let w = encodeNames (f .parameters) ++ encodeBody (f .body) in
-    omega (
-      arith,
-      length-append (encodeFunction f) (encodeFunctions fs),
-      length-append (encodeName (f .name) ++ w)
-          (length (encodeName (f .name) ++ w) ∷ length (encodeNames (f .parameters)) ∷ 0 ∷ bodyWord (f .body) ∷ []),
-    )
+functions-step f fs = let ns = encodeNames (f .parameters) in let w = encodeName (f .name) ++ (ns ++ encodeBody (f .body)) in
+    omega (arith, length-append (encodeFunction f) (encodeFunctions fs), length-append w (length w ∷ length ns ∷ 0 ∷ bodyWord (f .body) ∷ []))
 
 pub functions-long : (fs : List Function) → 10 * length fs ≤ length (encodeFunctions fs)
 functions-long [] = omega arith

@@ -73,14 +73,8 @@ pub enters-name : {s s′ table : List ℕ} {top leaf m k x : ℕ} → (m % 4 �
 unfolding code
 enters-name {k = k} e pu ex el = record {
   long = (el, refl);
-  by = λ f base sc ns name q sh l r nm tk b. rw (starts-nowhere f q e) (
-    rw nm at (pushed-name pu r l (N.function k) sh ex tt),
-    pushed-keeps (pu .pushed) r l,
-    tk,
-    omega arith,
-    omega arith,
-    refl,
-  );
+  by = λ f base sc ns name q sh l r nm tk b. let s = rw nm at (pushed-name pu r l (N.function k) sh ex tt) in
+      rw (starts-nowhere f q e) (s, pushed-keeps (pu .pushed) r l, tk, omega arith, omega arith, refl);
 }
 
 pub enters-far : {s table : List ℕ} {top leaf m k n : ℕ} → m % 4 ≡ 2 → n ≡ m / 4 → length table ≤ n → Enters s s table table top leaf m k top

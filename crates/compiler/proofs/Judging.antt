@@ -139,12 +139,9 @@ module _ (text : List ℕ) {s : List ℕ} {end : ℕ} (top : ℕ) (n : Node) (nd
       go sc lo p false (T.literal v) sh f h e = absurd (n1 (nd .kind ∙ kind-is [] v p 60 h e))
       go sc lo p false (T.known x) sh f h e = absurd (n2 (nd .kind ∙ kind-is [] (x .width) (x .place) 59 h e))
       go sc lo p true (T.literal v) sh f h e = absurd (q (omega (arith, size-is [] v p 36 h e)))
-      go sc lo p true (T.known x) sh f h e =
-          let c : List ℕ = 0 ∷ x .width ∷ x .place ∷ 59 ∷ [] in let hc = kid c 0 p 36 h e in let es : n .start ≡ lo = omega (
-            arith,
-            size-is c 0 p 36 h e,
-            ends c 0 p 36 h e,
-          ) in let a : n .start + 1 ≡ lo + 1 = omega arith in let b : n .start + 2 ≡ lo + 2 = omega arith in
+      go sc lo p true (T.known x) sh f h e = let c : List ℕ = 0 ∷ x .width ∷ x .place ∷ 59 ∷ [] in let hc = kid c 0 p 36 h e in
+          let es : n .start ≡ lo = omega (arith, size-is c 0 p 36 h e, ends c 0 p 36 h e) in
+          let a : n .start + 1 ≡ lo + 1 = omega arith in let b : n .start + 2 ≡ lo + 2 = omega arith in
           let ep : getD s (n .start + 2) 0 ≡ x .place = ap (λ (k : ℕ). getD s k 0) b ∙ hc .at 2 (omega arith) in let ex : nameAt s (n .start) ≡ x
           = name-there s (n .start) (ap (λ (k : ℕ). getD s k 0) a ∙ hc .at 1 (omega arith)) ep in
           nm .by (record { place = p; minus = true; simple = T.known x }) x (lookup text sc x) (rw (lk .by sc sh, ex)) refl

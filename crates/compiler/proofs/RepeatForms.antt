@@ -148,16 +148,10 @@ module _ (text t₀ : List ℕ) (own₀ : ℕ) {s₀ : List ℕ} {from end : ℕ
       module _ {a : State} (el : a .label ≡ st .label) where
         -- what stands there, as its test's expression
         abbrev ready-test : (w : ℕ) (e : Expression) → one .part ≡ onTest w e → Ready encode depth FineE s next here a
-        ready-test w e q = let z = y .ready in let h = rw q at (one .lies) in let m : length (formEncoding (one .part)) ≡ length (encode e)
-            = rw q in
-            sub z (p .keeps) h refl (omega (
-              arith,
-              forms-size,
-              one .ends,
-              rest-length z (y .starts) l es en p,
-              forms-conditions,
-              rw q at (both-deep z (y .starts) l es en p .0),
-            )) (subst FineForm q (both-fine z (y .starts) l es en p .0))
+        ready-test w e q = let z = y .ready in let h = rw q at (one .lies) in let d = rw q at (both-deep z (y .starts) l es en p .0) in
+            let m : length (formEncoding (one .part)) ≡ length (encode e) = rw q in
+            sub z (p .keeps) h refl (omega (arith, forms-size, one .ends, rest-length z (y .starts) l es en p, forms-conditions, d))
+            (subst FineForm q (both-fine z (y .starts) l es en p .0))
 
         ready-form : ReadyForm s next size here a
         ready-form = record { on = λ n. by n (one .part) refl }
@@ -175,16 +169,11 @@ module _ (text t₀ : List ℕ) (own₀ : ℕ) {s₀ : List ℕ} {from end : ℕ
             by : (f : AForm) → one .part ≡ f
                 → Keeps (y .ready .base) (here .top) s s₁ × Did (formFaults text (y .ready .scope) here f) (oneSays text here (y .ready .scope) own f)
                 (2 * length (formEncoding f)) t₁ t₂ a b
-            by alone q =
-                let x = g .plain (rw (forms-size, q)) in (
-                  rw (x .0) keeps-all,
-                  did-as _ _ (emits-did _ (x .1) (λ n. refl)) same-refl (λ n e. refl) (omega arith),
-                )
+            by alone q = let x = g .plain (rw (forms-size, q)) in
+                (rw (x .0) keeps-all, did-as _ _ (emits-did _ (x .1) (λ n. refl)) same-refl (λ n e. refl) (omega arith))
             by (onTest w e) q = let m : length (formEncoding (one .part)) ≡ length (encode e) = rw q in
-                let x = g .on (λ n. omega (arith, n, forms-size, m, closed-long (expression-closed e))) .by (ready-test w e q) in (
-                  x .keeps,
-                  rw (← (one-word (y .ready) (y .starts) l es en p ew ∙ ap formWord q)) (x .did),
-                )
+                let x = g .on (λ n. omega (arith, n, forms-size, m, closed-long (expression-closed e))) .by (ready-test w e q) in
+                (x .keeps, rw (← (one-word (y .ready) (y .starts) l es en p ew ∙ ap formWord q)) (x .did))
 
     pub forms-part : {a : State} → a .label ≡ st .label → (y : ReadyForms s₀ from end here st₀) → FormsPart y s t at own st
         → ReadyForm s next size here a

@@ -46,27 +46,17 @@ module _ (text : List ℕ) (sc : Scope) (strings h : ℕ) where
   repeats-code (T.repeat rs) c n N own m x e eo em =
       let k = forms rs in let M = n + 3 * k in let q : M + 3 ≡ N = omega arith in let p : own ≡ M = omega arith in let r : M + (3 + cmdLabels c)
       ≡ m = omega arith in let C = cmdCode strings h N (G.inLoop (M + 1) (M + 2) x) c in let tail = I.label (M + 1) ∷ G.JL M ∷ I.label (M + 2) ∷ [] in
-      let F = formsCode text sc strings h (M - 3) rs m in
-      cc (
-        repeats-code rs (R.repeat c) n M (M - 3) m x refl refl (sym r),
-        in-loops n k (M + 1) (M + 2) x,
-        append-assoc C tail F,
-        append-assoc (topsCode n k) (I.label M ∷ []) (C ++ (I.label (M + 1) ∷ G.JL M ∷ I.label (M + 2) ∷ F)),
-        tops-snoc n k,
-      )
+      let F = formsCode text sc strings h (M - 3) rs m in let i = repeats-code rs (R.repeat c) n M (M - 3) m x refl refl (sym r) in
+      let a = append-assoc (topsCode n k) (I.label M ∷ []) (C ++ (I.label (M + 1) ∷ G.JL M ∷ I.label (M + 2) ∷ F)) in
+      cc (i, in-loops n k (M + 1) (M + 2) x, append-assoc C tail F, a, tops-snoc n k)
   repeats-code (T.repeatOn w e rs) c n N own m x en eo em =
       let k = forms rs in let M = n + 3 * k in let q : M + 3 ≡ N = omega arith in let p : own ≡ M = omega arith in let E = expression text sc h e in
       let b = eqb w 21 in let r : M + (3 + cmdLabels c + exprLabels E) ≡ m + exprLabels E = omega arith in let r′ : M + 3 + cmdLabels c
       ≡ m = omega arith in let C = cmdCode strings h N (G.inLoop (M + 1) (M + 2) x) c in let X = exprCode strings h m E in let end = G.jumpWhen b M
       ∷ I.label (M + 2) ∷ [] in let F = formsCode text sc strings h (M - 3) rs (m + exprLabels E) in
-      cc (
-        repeats-code rs (R.repeatWhile b c E) n M (M - 3) (m + exprLabels E) x refl refl (sym r),
-        in-loops n k (M + 1) (M + 2) x,
-        append-assoc C (I.label (M + 1) ∷ (X ++ end)) F,
-        append-assoc X end F,
-        append-assoc (topsCode n k) (I.label M ∷ []) (C ++ (I.label (M + 1) ∷ (X ++ (G.jumpWhen b M ∷ I.label (M + 2) ∷ F)))),
-        tops-snoc n k,
-      )
+      let i = repeats-code rs (R.repeatWhile b c E) n M (M - 3) (m + exprLabels E) x refl refl (sym r) in
+      let a = append-assoc (topsCode n k) (I.label M ∷ []) (C ++ (I.label (M + 1) ∷ (X ++ (G.jumpWhen b M ∷ I.label (M + 2) ∷ F)))) in
+      cc (i, in-loops n k (M + 1) (M + 2) x, append-assoc C (I.label (M + 1) ∷ (X ++ end)) F, append-assoc X end F, a, tops-snoc n k)
 
 pub repeats-heights : (text : List ℕ) (sc : Scope) (h : ℕ) (rs : Repeats) (c : Cmd)
     → ofCmd h (repeats text sc h c rs) ≡ ofCmd h c ++ formsHeights text sc h rs

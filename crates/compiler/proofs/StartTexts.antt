@@ -79,11 +79,8 @@ one-start : {table : List ℕ} {k : ℕ} {ss : List Start} (s : Start) → lengt
     → StartsAt table (suc k) s
 one-start {table} {k} s l q e = record {
   is = λ n h g. sym e ∙ q .is n k h g;
-  has = λ n g. let z : getD table n 0 ≡ suc k = q .has n k (e ∙ g) in (
-    by-cases (ltb n 400) (ltb-true n 400)
-        (λ h. absurd (omega (arith, List·getD-eq-default table 0 {n = n} (omega (arith, ltb-false n 400 h))))),
-    z,
-  );
+  has = λ n g. let z : getD table n 0 ≡ suc k = q .has n k (e ∙ g) in
+      (by-cases (ltb n 400) (ltb-true n 400) (λ h. absurd (omega (arith, List·getD-eq-default table 0 {n = n} (omega (arith, ltb-false n 400 h))))), z);
 }
 
 first-fun : (fs : List Fun) → 0 < length fs → (f : Fun) × (b : List Fun) × (fs ≡ f ∷ b)

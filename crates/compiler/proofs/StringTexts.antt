@@ -44,15 +44,8 @@ module _ {c at r : ℕ} {t t′ : List ℕ} where
 pub no-escape : {c : ℕ} → Unlike c (34 ∷ 42 ∷ 13 ∷ 12 ∷ 8 ∷ 9 ∷ 10 ∷ []) → Escapes c 0
 unfolding characterText
 no-escape {c} h = record {
-  plain = λ _. rw (
-    ne-eqb c 10 (h .0 .0 .0 .0 .0 .0 .1),
-    ne-eqb c 9 (h .0 .0 .0 .0 .0 .1),
-    ne-eqb c 8 (h .0 .0 .0 .0 .1),
-    ne-eqb c 12 (h .0 .0 .0 .1),
-    ne-eqb c 13 (h .0 .0 .1),
-    ne-eqb c 42 (h .0 .1),
-    ne-eqb c 34 (h .1),
-  );
+  plain = λ _. rw (ne-eqb c 10 (h .0 .0 .0 .0 .0 .0 .1), ne-eqb c 9 (h .0 .0 .0 .0 .0 .1), ne-eqb c 8 (h .0 .0 .0 .0 .1))
+      (rw (ne-eqb c 12 (h .0 .0 .0 .1), ne-eqb c 13 (h .0 .0 .1), ne-eqb c 42 (h .0 .1), ne-eqb c 34 (h .1)));
   starred = λ n. absurd (n refl);
 }
 
@@ -241,24 +234,16 @@ pub listing-next : {source s : List ℕ} {count first i n at x r k p d : ℕ} {t
     → p ≡ getD s (i * 3 + 2) 0 → d ≡ oneIf k
     → WritesSymbol source k p n x r t₁ t₂ → Listing source s count first i n at x t t₁ → Listing source s count first (i + 1) (n + d) at r t t₂
 listing-next {source} {s} {count} {first} {i} {n} {at} {x} {r} {k} {p} h ek ep ed w q = record {
-  by = λ e.
-      let y = q .by e in
-      let m = symbols-more count s i h in
-      let a = rw m at (y .ends) in
-      let f : k ≡ STRING → Ends source p = λ z. rw ep (first-ends a (sym ek ∙ z)) in
-      let o = ofSymbol source k p in
-      let l : length (y .done ++ o) ≡ length (y .done) + length o = length-append (y .done) o in
+  by = λ e. let y = q .by e in let m = symbols-more count s i h in let a = rw m at (y .ends) in let o = ofSymbol source k p in
+      let f : k ≡ STRING → Ends source p = λ z. rw ep (first-ends a (sym ek ∙ z)) in let l = length-append (y .done) o in
+      let j = lines-then (stringsCode first (y .done)) (stringsCode (first + length (y .done)) o) in
       record {
         done = y .done ++ o;
         next = omega (arith, of-symbol-count source k p);
         ends = others-end a;
         all = y .all ∙ ap (λ (z : List (List ℕ)). y .done ++ z) (ap (stringsAmong source) m ∙ of-symbol-first source _ (symbolsFrom count s (i + 1))
             ∙ rw (ek, ep) refl) ∙ sym (append-assoc (y .done) o (stringsAmong source (symbolsFrom count s (i + 1))));
-        puts = puts-as (puts-then (y .puts) (w .by f)) (cc (
-          strings-then first (y .done) o,
-          lines-then (stringsCode first (y .done)) (stringsCode (first + length (y .done)) o),
-          of-symbol-code source k p n,
-        ));
+        puts = puts-as (puts-then (y .puts) (w .by f)) (cc (strings-then first (y .done) o, j, of-symbol-code source k p n));
       };
 }
 

@@ -110,13 +110,8 @@ module _ {A : Type 0} (K : Holding A) where
 
     pub count-next : {at next k : ℕ} (n : ℕ) → at < end → NextItem s at end next → ((x : A) → K .At next x → k ≡ caseItems (K .one x)) → (xs : List A)
         → CountPart at n xs → CountPart next (n + k) xs
-    count-next {at} {next} {k} n l m f xs p = left-next l m p (λ x ys e q h. omega (
-      arith,
-      f x q,
-      ap caseItems (K .more x ys),
-      cases-then (K .one x)
-          (K .every ys),
-    ))
+    count-next {at} {next} {k} n l m f xs p = left-next l m p (λ x ys e q h. let a = ap caseItems (K .more x ys) in
+        omega (arith, f x q, a, cases-then (K .one x) (K .every ys)))
 
     pub count-end : {at n : ℕ} → end ≤ at → (xs : List A) → CountPart at n xs → n ≡ caseItems (K .every xs)
     unfolding caseItems
@@ -271,10 +266,8 @@ module _ (text : List ℕ) {s : List ℕ} {from end top : ℕ} (k : ℕ) (t₀ :
   pub pairs-next : {at next : ℕ} {t t₁ : List ℕ} {st r : State} → at < end → NextItem s at end next → WritesPair text s next top k t t₁ st r
       → (y : Listed (LabelAt s) s from end top) → PairsPart y t at st → PairsPart y t₁ next r
   pairs-next {at} {next} {t} {t₁} {st} {r} l n w y p = let sc = y .scope in
-      left-next l n p (λ x xs e q h. (
-        sound-right (x ∷ []) xs (h .0),
-        λ t′ st′ d. h .1 t′ st′ (emits-as (emits-then (w .by sc x (y .shows) q (sound-left (x ∷ []) xs (h .0))) d) (pairs-then text sc k x xs)),
-      ))
+      left-next l n p (λ x xs e q h. let f = w .by sc x (y .shows) q (sound-left (x ∷ []) xs (h .0)) in
+      (sound-right (x ∷ []) xs (h .0), λ t′ st′ d. h .1 t′ st′ (emits-as (emits-then f d) (pairs-then text sc k x xs))))
 
   pub pairs-end : {at : ℕ} {t : List ℕ} {st : State} → end ≤ at → Still st₀ st
       → ((y : Listed (LabelAt s) s from end top) → Sound text (y .scope) (y .all) → PairsPart y t at st)
@@ -296,10 +289,8 @@ module _ (text : List ℕ) {s : List ℕ} {from end top : ℕ} (first : ℕ) (t�
       → TablePart y t₁ next (k + 1) r
   unfolding flat tableAmong
   table-next {at} {next} {k} {sp} {t} {t₁} {st} {r} l n i w y p = let sc = y .scope in
-      left-next l n p (λ ls lss e q h. (
-        sound-right ls (flat lss) (h .0),
-        λ t′ st′ d. h .1 t′ st′ (emits-then (w .by (own-labels i y ls q) (sound-left ls (flat lss) (h .0))) d),
-      ))
+      left-next l n p (λ ls lss e q h. let f = w .by (own-labels i y ls q) (sound-left ls (flat lss) (h .0)) in
+      (sound-right ls (flat lss) (h .0), λ t′ st′ d. h .1 t′ st′ (emits-then f d)))
 
   pub table-end : {at : ℕ} (k : ℕ) {t : List ℕ} {st : State} → end ≤ at → Still st₀ st
       → ((y : Listed (CommandAt s) s from end top) → Sound text (y .scope) (flat (y .all)) → TablePart y t at k st)
