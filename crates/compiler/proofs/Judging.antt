@@ -80,72 +80,55 @@ abbrev FineSimple : (place : ℕ) (minus : Bool) → Simple → Type 0
 FineSimple p b x = ((v : ℕ) → x ≡ T.literal v → v < 65536) × ((n : Name) → x ≡ T.known n → b ≡ false → p ≡ n .place)
 
 module _ (text : List ℕ) {s : List ℕ} {end : ℕ} (top : ℕ) (n : Node) (nd : NodeAt s end n) where
-  abbrev Go : Verdict → Type 0
-  Go r = (sc : Scope) (lo p : ℕ) (b : Bool) (x : Simple) → Shows s top sc → FineSimple p b x → Lies s lo
-      (cond b (encodeNegative p x) (encodePositive p x)) → end ≡ lo + length (cond b (encodeNegative p x) (encodePositive p x)) → Says r
-      (ofSimple text sc (record { place = p; minus = b; simple = x }) x)
-
-  judges : {r : Verdict} → (r .place < 2 ^ 32) × (r .number < 32) → r .word < 2 ^ 30 → Go r → Judges text s end top r
-  unfolding judge encodeConstant
-  judges f l go =
-      record { fits = f; low = l; by = λ sc lo c sh fine h e. go sc lo (c .place) (c .minus) (c .simple) sh (fine .small, fine .place) h e }
+  -- a number, a name, a number with a minus, and a name with a minus
+  judges : {r : Verdict} → (r .place < 2 ^ 32) × (r .number < 32) → r .word < 2 ^ 30
+      → ((v : ℕ) → n .kind ≡ 60 → n .value ≡ v → v < 65536 → Says r (good v))
+      → ((sc : Scope) (c : Constant) (x : Name) → Shows s top sc → n .kind ≡ 59 → nameAt s (n .inner) ≡ x → x .place ≡ n .place → c .minus ≡ false
+      → c .place ≡ n .place → Says r (ofFound c x (lookup text sc x))) → ((v : ℕ) → n .kind ≡ 36 → n .start ≡ n .inner → n .value ≡ v → Says r (good (signed true v)))
+      → ((sc : Scope) (c : Constant) (x : Name) → Shows s top sc → n .kind ≡ 36 → n .start + 4 ≡ n .inner → nameAt s (n .start) ≡ x
+      → c .minus ≡ true → c .place ≡ n .place → Says r (ofFound c x (lookup text sc x))) → Judges text s end top r
+  unfolding judge encodeConstant encodePositive encodeNegative encodeName
+  judges {r} f l number name minus-number minus-name = record {
+    fits = f;
+    low = l;
+    by = λ sc lo c sh fine h e. go sc lo (c .place) (c .minus) (c .simple) sh (fine .small, fine .place) h e;
+  }
+    where
+      go : (sc : Scope) (lo p : ℕ) (b : Bool) (x : Simple) → Shows s top sc → FineSimple p b x → Lies s lo
+          (cond b (encodeNegative p x) (encodePositive p x)) → end ≡ lo + length (cond b (encodeNegative p x) (encodePositive p x)) → Says r
+          (ofSimple text sc (record { place = p; minus = b; simple = x }) x)
+      go sc lo p false (T.literal v) sh f h e = number v (nd .kind ∙ kind-is [] v p 60 h e) (nd .value ∙ value-is [] v p 60 h e) (f .0 v refl)
+      go sc lo p false (T.known x) sh f h e = let en = ends [] (x .width) (x .place) 59 h e in let w = value-is [] (x .width) (x .place) 59 h e in
+          let q = place-is [] (x .width) (x .place) 59 h e in let a : n .inner + 1 ≡ end - 3 = omega arith in let b : n .inner + 2 ≡ end - 2 = omega arith in
+          name sc (record { place = p; minus = false; simple = T.known x }) x sh (nd .kind ∙ kind-is [] (x .width) (x .place) 59 h e)
+          (name-there s (n .inner) (rw (a, w)) (rw (b, q))) (sym (nd .place ∙ q)) refl (f .1 x refl refl ∙ sym (nd .place ∙ q))
+      go sc lo p true (T.literal v) sh f h e =
+          minus-number v (nd .kind ∙ kind-is [] v p 36 h e) (omega (arith, size-is [] v p 36 h e)) (nd .value ∙ value-is [] v p 36 h e)
+      go sc lo p true (T.known x) sh f h e = let c : List ℕ = 0 ∷ x .width ∷ x .place ∷ 59 ∷ [] in let hc = kid c 0 p 36 h e in
+          let z = size-is c 0 p 36 h e in let en = ends c 0 p 36 h e in let es : lo ≡ n .start = omega arith in
+          minus-name sc (record { place = p; minus = true; simple = T.known x }) x sh (nd .kind ∙ kind-is c 0 p 36 h e) (omega arith)
+          (rw es at (name-there s lo (hc .at 1 (omega arith)) (hc .at 2 (omega arith)))) refl (sym (nd .place ∙ place-is c 0 p 36 h e))
 
   pub judge-number : n .kind ≡ 60 → Judges text s end top (record { word = n .value % 65536; number = 0; place = 0 })
-  unfolding encodePositive encodeNegative encodeName
-  judge-number q = judges (omega arith, omega arith) (omega arith) go
-    where
-      go : Go (record { word = n .value % 65536; number = 0; place = 0 })
-      go sc lo p false (T.literal v) sh f h e = let z : n .value ≡ v = nd .value ∙ value-is [] v p 60 h e in
-          let w : v ≡ n .value % 65536 = omega (arith, f .0 v refl) in rw w (fit refl)
-      go sc lo p false (T.known x) sh f h e = absurd (omega (arith, kind-is [] (x .width) (x .place) 59 h e))
-      go sc lo p true (T.literal v) sh f h e = absurd (omega (arith, kind-is [] v p 36 h e))
-      go sc lo p true (T.known x) sh f h e = absurd (omega (arith, kind-is (0 ∷ x .width ∷ x .place ∷ 59 ∷ []) 0 p 36 h e))
+  judge-number q = judges (omega arith, omega arith) (omega arith) (λ v k e l. let w : v ≡ n .value % 65536 = omega arith in rw w (fit refl))
+      (λ sc c x sh k en o m p. absurd (omega arith)) (λ v k z e. absurd (omega arith)) (λ sc c x sh k z en m p. absurd (omega arith))
 
   pub judge-name : {m : ℕ} {r : Verdict} → n .kind ≡ 59 → Looked text s top (n .inner) m → NamedConstant m false (n .place) (n .place) r
       → Judges text s end top r
-  unfolding encodePositive encodeNegative encodeName
-  judge-name {m} {r} q lk nm = judges (nm .fits) (nm .low) go
-    where
-      go : Go r
-      go sc lo p false (T.literal v) sh f h e = absurd (omega (arith, kind-is [] v p 60 h e))
-      go sc lo p false (T.known x) sh f h e =
-          let a : n .inner + 1 ≡ end - 3 = omega (arith, ends [] (x .width) (x .place) 59 h e) in let b : n .inner + 2 ≡ end - 2
-          = omega (arith, ends [] (x .width) (x .place) 59 h e) in let ex : nameAt s (n .inner) ≡ x = name-there s (n .inner)
-          (rw (a, value-is [] (x .width) (x .place) 59 h e)) (rw (b, place-is [] (x .width) (x .place) 59 h e)) in let ep : x .place
-          ≡ n .place = sym (nd .place ∙ place-is [] (x .width) (x .place) 59 h e) in
-          nm .by (record { place = p; minus = false; simple = T.known x }) x (lookup text sc x) (rw (lk .by sc sh, ex)) refl (f .1 x refl refl ∙ ep)
-          ep
-      go sc lo p true (T.literal v) sh f h e = absurd (omega (arith, kind-is [] v p 36 h e))
-      go sc lo p true (T.known x) sh f h e = absurd (omega (arith, kind-is (0 ∷ x .width ∷ x .place ∷ 59 ∷ []) 0 p 36 h e))
+  judge-name q lk nm = judges (nm .fits) (nm .low) (λ v k e l. absurd (omega arith))
+      (λ sc c x sh k en o m p. nm .by c x (lookup text sc x) (rw (lk .by sc sh, en)) m p o)
+      (λ v k z e. absurd (omega arith)) (λ sc c x sh k z en m p. absurd (omega arith))
 
   pub judge-negative : {w : ℕ} → (n .kind ≡ 60 → ⊥) → (n .kind ≡ 59 → ⊥) → n .start ≡ n .inner → w ≡ signed true (n .value)
       → Judges text s end top (record { word = w; number = 0; place = 0 })
-  unfolding encodePositive encodeNegative encodeName
-  judge-negative {w} n1 n2 q ew = judges (omega arith, omega arith) (omega arith) go
-    where
-      go : Go (record { word = w; number = 0; place = 0 })
-      go sc lo p false (T.literal v) sh f h e = absurd (n1 (nd .kind ∙ kind-is [] v p 60 h e))
-      go sc lo p false (T.known x) sh f h e = absurd (n2 (nd .kind ∙ kind-is [] (x .width) (x .place) 59 h e))
-      go sc lo p true (T.literal v) sh f h e = rw (← (ew ∙ ap (signed true) (nd .value ∙ value-is [] v p 36 h e))) (fit refl)
-      go sc lo p true (T.known x) sh f h e = let c : List ℕ = 0 ∷ x .width ∷ x .place ∷ 59 ∷ [] in
-          absurd (omega (arith, size-is c 0 p 36 h e, ends c 0 p 36 h e))
+  judge-negative n1 n2 q ew = judges (omega arith, omega arith) (omega arith) (λ v k e l. absurd (n1 k)) (λ sc c x sh k en o m p. absurd (n2 k))
+      (λ v k z e. rw (← (ew ∙ ap (signed true) e)) (fit refl)) (λ sc c x sh k z en m p. absurd (omega arith))
 
   pub judge-negated : {m name : ℕ} {r : Verdict} → (n .kind ≡ 60 → ⊥) → (n .kind ≡ 59 → ⊥) → (n .start ≡ n .inner → ⊥)
       → Looked text s top (n .start) m → name ≡ getD s (n .start + 2) 0 → NamedConstant m true name (n .place) r → Judges text s end top r
-  unfolding encodePositive encodeNegative encodeName
-  judge-negated {m} {name} {r} n1 n2 q lk ename nm = judges (nm .fits) (nm .low) go
-    where
-      go : Go r
-      go sc lo p false (T.literal v) sh f h e = absurd (n1 (nd .kind ∙ kind-is [] v p 60 h e))
-      go sc lo p false (T.known x) sh f h e = absurd (n2 (nd .kind ∙ kind-is [] (x .width) (x .place) 59 h e))
-      go sc lo p true (T.literal v) sh f h e = absurd (q (omega (arith, size-is [] v p 36 h e)))
-      go sc lo p true (T.known x) sh f h e = let c : List ℕ = 0 ∷ x .width ∷ x .place ∷ 59 ∷ [] in let hc = kid c 0 p 36 h e in
-          let es : n .start ≡ lo = omega (arith, size-is c 0 p 36 h e, ends c 0 p 36 h e) in
-          let a : n .start + 1 ≡ lo + 1 = omega arith in let b : n .start + 2 ≡ lo + 2 = omega arith in
-          let ep : getD s (n .start + 2) 0 ≡ x .place = ap (λ (k : ℕ). getD s k 0) b ∙ hc .at 2 (omega arith) in let ex : nameAt s (n .start) ≡ x
-          = name-there s (n .start) (ap (λ (k : ℕ). getD s k 0) a ∙ hc .at 1 (omega arith)) ep in
-          nm .by (record { place = p; minus = true; simple = T.known x }) x (lookup text sc x) (rw (lk .by sc sh, ex)) refl
-          (sym (nd .place ∙ place-is c 0 p 36 h e)) (sym (ename ∙ ep))
+  judge-negated n1 n2 q lk ename nm = judges (nm .fits) (nm .low) (λ v k e l. absurd (n1 k)) (λ sc c x sh k en o m p. absurd (n2 k))
+      (λ v k z e. absurd (q z)) (λ sc c x sh k z en m p. nm .by c x (lookup text sc x) (rw (lk .by sc sh, en)) m p
+      (sym (ename ∙ ap (λ (z : Name). z .place) en)))
 
 -- its place is that of its record
 constant-place : {s : List ℕ} {lo end : ℕ} (p : ℕ) (b : Bool) (x : Simple) → FineSimple p b x
