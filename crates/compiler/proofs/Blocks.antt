@@ -159,6 +159,9 @@ local-fine (someValues ns es) ls f = ((sym (f .2), f .0, f .3), f .1)
 
 -- ---- the loop over declarations: the scope and the height change on the way
 
+abbrev pub DidLocals : (text : List ℕ) → Here → Scope → (h : ℕ) → T.Locals → (t t′ : List ℕ) (st st′ : State) → Type 0
+DidLocals text here sc h ls = Did (inLocals text sc (leavable here) h ls) (localsSays here h (locals text sc h ls)) (2 * length (encodeLocals ls))
+
 module _ (text t₀ : List ℕ) {s₀ : List ℕ} {from end : ℕ} {here : Here} {st₀ : State} where
   pub record LocalsPart (y : ReadyLocals s₀ from end here st₀) (s t : List ℕ) (at : ℕ) (r : Placed) : Type 0 where
     pub left : Rest encodeLocals (y .ready .base) (here .top) s₀ s end at
@@ -173,11 +176,8 @@ module _ (text t₀ : List ℕ) {s₀ : List ℕ} {from end : ℕ} {here : Here}
     pub fine : FineLs (left .rest)
     pub scopes : scopeAfter text (y .ready .scope) (here .height) (y .ready .tree) ≡ scopeAfter text scope (r .height) (left .rest)
     pub heights : heightAfter text (y .ready .scope) (here .height) (y .ready .tree) ≡ heightAfter text scope (r .height) (left .rest)
-    pub finish : (t′ : List ℕ) (st′ : State)
-        → Did (inLocals text scope (leavable here) (r .height) (left .rest)) (localsSays here (r .height) (locals text scope (r .height) (left .rest)))
-        (2 * length (encodeLocals (left .rest))) t t′ (r .done) st′ → Did (inLocals text (y .ready .scope) (leavable here) (here .height) (y .ready .tree))
-        (localsSays here (here .height) (locals text (y .ready .scope) (here .height) (y .ready .tree))) (2 * length (encodeLocals (y .ready .tree)))
-        t₀ t′ st₀ st′
+    pub finish : (t′ : List ℕ) (st′ : State) → DidLocals text here scope (r .height) (left .rest) t t′ (r .done) st′
+        → DidLocals text here (y .ready .scope) (here .height) (y .ready .tree) t₀ t′ st₀ st′
 
   pub locals-begin : (y : ReadyLocals s₀ from end here st₀) → LocalsPart y s₀ t₀ from (record { top = here .top; height = here .height; done = st₀ })
   locals-begin y = let z = y .ready in record {
@@ -212,7 +212,8 @@ module _ (text t₀ : List ℕ) {s₀ : List ℕ} {from end : ℕ} {here : Here}
     abbrev pub locals-part : (y : ReadyLocals s₀ from end here st₀) → LocalsPart y s t at r
         → ReadyLocal s next (placed (r .top) (r .height) here) (r .done)
     locals-part y p = let z = y .ready in let u = one y p in
-        moved z (p .left .keeps) (p .scope) (u .lies) (p .shows) (omega (arith, locals-sizes y p)) (omega (arith, locals-sizes y p)) (locals-fine y p .0)
+        moved z (p .left .keeps) (p .scope) (u .lies) (p .shows) (omega (arith, locals-sizes y p)) (omega (arith, locals-sizes y p))
+        (locals-fine y p .0)
 
     pub locals-next : {s₁ t₁ : List ℕ} {r′ : Placed} → GaveLocal text s s₁ next (placed (r .top) (r .height) here) t t₁ (r .done) r′
         → (y : ReadyLocals s₀ from end here st₀) → LocalsPart y s t at r → LocalsPart y s₁ t₁ next r′

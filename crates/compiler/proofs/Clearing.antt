@@ -44,7 +44,8 @@ padded-clean w room e h = record {
 -- a front that was lent
 pub clean-front : {s front : List ℕ} {used : ℕ} (k : ℕ) → length front ≡ k → Clean used front → Clean used s → Clean used (front ++ drop k s)
 clean-front {s} {front} {used} k e f c = record {
-  zeros = λ i h. by-cases (ltb i k) (λ q. List·getD-append front (drop k s) 0 i (omega (arith, ltb-true i k q)) ∙ f .zeros i h) (λ q. let l = ltb-false i k q in
+  zeros = λ i h. by-cases (ltb i k) (λ q. List·getD-append front (drop k s) 0 i (omega (arith, ltb-true i k q)) ∙ f .zeros i h)
+      (λ q. let l = ltb-false i k q in
       at-behind front (drop k s) i (omega arith) ∙ (getD-drop k s (i - length front) 0 ∙ c .zeros (k + (i - length front)) (omega arith)));
 }
 

@@ -27,7 +27,7 @@ module _ {s : List ℕ} {end : ℕ} {here : Here} {st : State} (n : Node) (nd : 
   valof-fits y h = (omega (arith, ap depth h), subst FineE h (y .fine))
 
   abbrev pub valof-part : {a : State} → Fresh 1 st a → ReadyE s end here st → ReadyC s (n .inner) (inside here) a
-  valof-part e y = let u = is-valof (find n nd q y) in sub y keeps-all (u .lies) refl (omega (arith, valof-fits y (u .same) .0)) (valof-fits y (u .same) .1)
+  valof-part e y = let u = is-valof (find n nd q y) in let f = valof-fits y (u .same) in sub y keeps-all (u .lies) refl (omega (arith, f .0)) (f .1)
 
   pub valof-gave : (text : List ℕ) {s₁ t t₁ t₂ : List ℕ} {a b c : State} → Fresh 1 st a
       → GaveC text s s₁ (n .inner) (inside here) (inValof (st .label)) t t₁ a b → Emits (I.label (st .label) ∷ []) [] t₁ t₂ b c

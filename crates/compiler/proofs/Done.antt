@@ -214,7 +214,8 @@ module _ {fs : List Fault} {f : ℕ → Code} {m : ℕ} {t t₁ t₂ : List ℕ}
 
   pub did-after : {hs : List ℕ} → Emits xs hs t t₁ st a → Did fs f m t₁ t₂ a b
       → Did fs (λ n. record { items = xs ++ f n .items; heights = hs ++ f n .heights; labels = f n .labels }) m t t₂ st b
-  did-after e x = did-as _ m (did-then (emits-did _ e (λ n. refl)) x) same-refl (λ n c. let z : n + 0 ≡ n = omega arith in rw z (code-is refl refl (omega arith))) (omega arith)
+  did-after e x = did-as _ m (did-then (emits-did _ e (λ n. refl)) x) same-refl (λ n c. let z : n + 0 ≡ n = omega arith in
+      rw z (code-is refl refl (omega arith))) (omega arith)
 
 -- after new labels
 pub did-fresh : {fs : List Fault} {f : ℕ → Code} {k m : ℕ} {t t′ : List ℕ} {st a b : State} → Fresh k st a → Did fs f m t t′ a b

@@ -186,11 +186,12 @@ module _ {s : List ℕ} {end : ℕ} {here : Here} {st : State} (n b l : Node) {l
               let eh : h + 1 + 1 ≡ h + 2 = omega arith in
               let ec : L + 3 + (G.exprLabels E + G.exprLabels D) ≡ L + 3 + G.exprLabels E + G.exprLabels D = omega arith in
               let ll = leaves-loop here ways (L + 1) (L + 2) (omega arith) in let bf = bl .by (byJudged text sc (u .by)) (for-says y) t₄ in
+              let fs = by-faults text sc (u .by) in let k = ap (λ (v : Unlabelled). length (encodeUnlabelled v)) (u .same) in
               rw (u .same) (record {
                 keeps = after-block (omega arith) (for-block-keeps y) (w .keeps);
                 did = did-at (cmdSays here ways (R.for E D B C)) _ (did-fresh e
                     (did-put (did-then (did-put (did-judged (did-emit (did-then (did-emit (with-ways text sc here ways h (u .start) (x .did)) f)
-                    (with-ways text sc here ways (h + 1) (u .limit) (z .did))) f₂) bf) f₃) (w .did)) f₄)) (same-eq (rw (by-faults text sc (u .by), ll)))
-                    (λ _. code-is (simp (append-assoc, eb, ec)) (simp (append-assoc, eh)) (omega arith)) (omega (arith, ap (λ (v : Unlabelled). length (encodeUnlabelled v)) (u .same)));
+                    (with-ways text sc here ways (h + 1) (u .limit) (z .did))) f₂) bf) f₃) (w .did)) f₄))
+                    (same-eq (rw (fs, ll))) (λ _. code-is (simp (append-assoc, eb, ec)) (simp (append-assoc, eh)) (omega arith)) (omega (arith, k));
               });
         }

@@ -89,4 +89,6 @@ module _ {s : List ℕ} {from end at n size word : ℕ} (l : at < end) (es : siz
   counted-past g p h e = let c = q p h e in let u = is-declaration (c .left .rest) (c .left .lies) (c .left .ends) l in absurd (omega arith)
 
 pub counted-end : {s : List ℕ} {from end at n : ℕ} → end ≤ at → Counted s from end at n → CountsFunctions s from end n
-counted-end l q = record { by = λ p h e. let c = q p h e in omega (arith, ap functionCount (no-declaration (c .left .rest) (c .left .ends) l), count-none) }
+counted-end l q = record {
+  by = λ p h e. let c = q p h e in let z = no-declaration (c .left .rest) (c .left .ends) l in omega (arith, ap functionCount z, count-none);
+}

@@ -103,7 +103,8 @@ module _ {s : List ℕ} {end : ℕ} {here : Here} {st : State} (n : Node) (nd : 
       unfolding functionFaults resolved heightsOf
       function-gave g pt = record {
         by = λ y. let f = y .tree in let sc = inside (y .scope) f in let w = de .by (function-names y) in let x = g .by (function-body y) in
-            let body = rw (function-places y .1) at (x .did) in let top = rw (function-places y .1) at (re .by t₁) in let h = 2 + length (f .parameters) in
+            let body = rw (function-places y .1) at (x .did) in let top = rw (function-places y .1) at (re .by t₁) in
+            let h = 2 + length (f .parameters) in
             let rb = bodyOf text sc h (f .body) in
             record {
               keeps = keeps-then (function-keeps y) (keeps-lower (omega arith) (x .keeps));

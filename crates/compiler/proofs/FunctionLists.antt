@@ -205,7 +205,8 @@ module _ (text t₀ : List ℕ) {s₀ : List ℕ} {from end : ℕ} {here : Here}
         × (length (encodeFunctions (p .left .rest)) ≡ 2 + length (encodeFunction (u .part)) + length (encodeFunctions (u .more))))
         × (length (p .left .rest) ≡ suc (length (u .more))) × (functionDepth (u .part) ≤ here .left) × (functionsDepth (u .more) ≤ here .left)
     unfolding functionsDepth
-    group-sizes = let e = ap functionsDepth (group-one .same) in (taken-sizes (p .left) group-one es, ap length (group-one .same), omega arith, omega arith)
+    group-sizes = let e = ap functionsDepth (group-one .same) in
+        (taken-sizes (p .left) group-one es, ap length (group-one .same), omega arith, omega arith)
 
     pub group-fine : FineF (group-one .part) × FineFs (group-one .more)
     unfolding FineFunctions
@@ -270,7 +271,8 @@ module _ (text t₀ : List ℕ) {s₀ : List ℕ} {from end : ℕ} {here : Here}
       → GaveFs text s₀ s from end label here t₀ t d₀ d
   unfolding groupFaults groupOf
   group-end lt q = record {
-    by = λ y before k. let p = q y before k in let e = no-function (p .left .rest) (p .left .ends) lt in let fe : p .found ≡ groupFaults text (y .scope)
+    by = λ y before k. let p = q y before k in let e = no-function (p .left .rest) (p .left .ends) lt in
+        let fe : p .found ≡ groupFaults text (y .scope)
         (y .functions) = cc (append-nil (p .found)) in let me : p .made ≡ groupOf text k before (y .scope) (y .functions) = cc (append-nil
         (p .made)) in let r = yields-as (2 * length (encodeFunctions (y .functions))) fe me (omega arith) (p .yields) in
         record { result = record { keeps = p .left .keeps; did = r .did }; tall = r .tall; fits = r .fits; low = p .low };

@@ -28,7 +28,8 @@ starting-with {table} {table′} {ss} {k} x e z keeps here only = record { is = 
 
     is : (n l : ℕ) → n < 400 → getD table′ n 0 ≡ suc l → getD (ss ++ (x ∷ [])) l nowhere ≡ inGlobal n
     is n l h q = ⊎-elim (λ w. by-cases (ltb l k) (λ i. List·getD-append ss (x ∷ []) nowhere l (omega (arith, ltb-true l k i)) ∙ z .is n l h w)
-        (λ i. let v : nowhere ≡ inGlobal n = sym (List·getD-eq-default ss nowhere (omega (arith, ltb-false l k i))) ∙ z .is n l h w in contradiction cc))
+        (λ i. let v : nowhere ≡ inGlobal n = sym (List·getD-eq-default ss nowhere (omega (arith, ltb-false l k i))) ∙ z .is n l h w in
+        contradiction cc))
         (λ w. rw (w .0, end) (w .1)) (only n l q)
 
     has : (n l : ℕ) → getD (ss ++ (x ∷ [])) l nowhere ≡ inGlobal n → getD table′ n 0 ≡ suc l
@@ -61,7 +62,8 @@ starting-more place f {table} {table′} {ns} {ss} {k} tk b q et e z = rw et (go
     go (N.known (N.local i)) b q = starting-nowhere e z
     go (N.known (N.manifest i)) b q = starting-nowhere e z
     go (N.known (N.function i)) b q = starting-nowhere e z
-    go (N.known (N.global n)) b q = starting-global n (omega (arith, b n refl)) (by-cases (among n ns) (λ a. let c = ap length (rw a at q) in absurd (omega arith))
+    go (N.known (N.global n)) b q = starting-global n (omega (arith, b n refl)) (by-cases (among n ns) (λ a. let c = ap length (rw a at q) in
+        absurd (omega arith))
         (tk .free n (b n refl))) e z
 
 -- a function's name adds no global
@@ -198,7 +200,8 @@ module _ (text : List ℕ) {s₀ table₀ : List ℕ} {from end top before : ℕ
       → GroupNames text s₀ s table₀ table from end top before st₀ (record { top = now; state = st })
   unfolding functionsAfter takenAfter groupNameFaults startsIn
   names-end {s} {table} {at} {k} l q = record {
-    by = λ y. let p = q y in let e = no-function (p .left .rest) (p .left .ends) l in let fs : groupNameFaults text before (y .scope) (y .taken) (y .functions)
+    by = λ y. let p = q y in let e = no-function (p .left .rest) (p .left .ends) l in
+        let fs : groupNameFaults text before (y .scope) (y .taken) (y .functions)
         ≡ p .bad =
         simp (p .faults, e, append-nil) in let ss : startsIn text before (y .scope) (y .functions) ≡ p .begun =
         simp (p .started, e, append-nil) in

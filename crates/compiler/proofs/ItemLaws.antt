@@ -145,7 +145,8 @@ module _ (g : Bool) (text : List ℕ) {s₀ : List ℕ} {from end top : ℕ} (st
   items-next {s} {s₁} {at} {size} {next} {m} {place} {x} {c} k {st} {a} {r} l es en ju told ep bl ag pu ex y p =
       let u = front k l y p in let f = items-fit k l y p in let told-k = item-says k l y p es en ju in let i = u .part in
       let sc = p .scope in let sc′ = scopeWith g text sc i in let j = judged g text sc (i .constant) in
-      let n : nameAt s (at + 2) ≡ i .name = item-name k l y p in let four : at + 4 ≡ at + 2 + 2 = omega arith in let ep′ : place ≡ i .name .place = cc in
+      let n : nameAt s (at + 2) ≡ i .name = item-name k l y p in let four : at + 4 ≡ at + 2 + 2 = omega arith in
+      let ep′ : place ≡ i .name .place = cc in
       let w : meaning g (c .word) ≡ meaning g (judgedWord j) = ap (meaning g) (says-word j told-k) in
       let tk : top + 2 * k + 2 ≡ top + 2 * (k + 1) = omega arith in
       record {
@@ -164,12 +165,13 @@ module _ (g : Bool) (text : List ℕ) {s₀ : List ℕ} {from end top : ℕ} (st
   pub items-end : {s : List ℕ} {at : ℕ} (k : ℕ) {st : State} → end ≤ at → ((y : ReadyItems s₀ from end top) → ItemsPart y s at k st)
       → Items g text s₀ s from end top st₀ (record { top = top + 2 * k; state = st })
   items-end k {st} l q = record {
-    by = λ y. let p = q y in let e = no-item (p .left .rest) (p .left .ends) l in let c : k ≡ length (y .items) = omega (arith, ap length e) in record {
-      moved = omega arith;
-      shows = rw (p .same ∙ ap (after g text (p .scope)) e ∙ no-more g text (p .scope) .0) (p .shows);
-      keeps = p .left .keeps;
-      did = λ t. p .finish t st (rw (ap (faults g text (p .scope)) e ∙ no-more g text (p .scope) .1) (did-none 0));
-    };
+    by = λ y. let p = q y in let e = no-item (p .left .rest) (p .left .ends) l in let c : k ≡ length (y .items) = omega (arith, ap length e) in
+        record {
+          moved = omega arith;
+          shows = rw (p .same ∙ ap (after g text (p .scope)) e ∙ no-more g text (p .scope) .0) (p .shows);
+          keeps = p .left .keeps;
+          did = λ t. p .finish t st (rw (ap (faults g text (p .scope)) e ∙ no-more g text (p .scope) .1) (did-none 0));
+        };
   }
 
   pub items-out : {s : List ℕ} {at : ℕ} (k : ℕ) {st : State} (y : ReadyItems s₀ from end top) → ItemsPart y s at k st → top + 2 * k ≤ length s₀

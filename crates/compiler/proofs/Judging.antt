@@ -84,7 +84,8 @@ module _ (text : List ℕ) {s : List ℕ} {end : ℕ} (top : ℕ) (n : Node) (nd
   judges : {r : Verdict} → (r .place < 2 ^ 32) × (r .number < 32) → r .word < 2 ^ 30
       → ((v : ℕ) → n .kind ≡ 60 → n .value ≡ v → v < 65536 → Says r (good v))
       → ((sc : Scope) (c : Constant) (x : Name) → Shows s top sc → n .kind ≡ 59 → nameAt s (n .inner) ≡ x → x .place ≡ n .place → c .minus ≡ false
-      → c .place ≡ n .place → Says r (ofFound c x (lookup text sc x))) → ((v : ℕ) → n .kind ≡ 36 → n .start ≡ n .inner → n .value ≡ v → Says r (good (signed true v)))
+      → c .place ≡ n .place → Says r (ofFound c x (lookup text sc x)))
+      → ((v : ℕ) → n .kind ≡ 36 → n .start ≡ n .inner → n .value ≡ v → Says r (good (signed true v)))
       → ((sc : Scope) (c : Constant) (x : Name) → Shows s top sc → n .kind ≡ 36 → n .start + 4 ≡ n .inner → nameAt s (n .start) ≡ x
       → c .minus ≡ true → c .place ≡ n .place → Says r (ofFound c x (lookup text sc x))) → Judges text s end top r
   unfolding judge encodeConstant encodePositive encodeNegative encodeName
@@ -99,7 +100,8 @@ module _ (text : List ℕ) {s : List ℕ} {end : ℕ} (top : ℕ) (n : Node) (nd
           (ofSimple text sc (record { place = p; minus = b; simple = x }) x)
       go sc lo p false (T.literal v) sh f h e = number v (nd .kind ∙ kind-is [] v p 60 h e) (nd .value ∙ value-is [] v p 60 h e) (f .0 v refl)
       go sc lo p false (T.known x) sh f h e = let en = ends [] (x .width) (x .place) 59 h e in let w = value-is [] (x .width) (x .place) 59 h e in
-          let q = place-is [] (x .width) (x .place) 59 h e in let a : n .inner + 1 ≡ end - 3 = omega arith in let b : n .inner + 2 ≡ end - 2 = omega arith in
+          let q = place-is [] (x .width) (x .place) 59 h e in let a : n .inner + 1 ≡ end - 3 = omega arith in
+          let b : n .inner + 2 ≡ end - 2 = omega arith in
           name sc (record { place = p; minus = false; simple = T.known x }) x sh (nd .kind ∙ kind-is [] (x .width) (x .place) 59 h e)
           (name-there s (n .inner) (rw (a, w)) (rw (b, q))) (sym (nd .place ∙ q)) refl (f .1 x refl refl ∙ sym (nd .place ∙ q))
       go sc lo p true (T.literal v) sh f h e =
@@ -249,7 +251,8 @@ module _ {s : List ℕ} {end : ℕ} {here : Here} {st : State} (n : Node) (nd : 
       → GaveLocal text s s₁ end here t t′ st (record { top = here .top + 2; height = hh; done = c })
   unfolding scopeWith heightWith faultsL localSays declareAll
   vector-gave text {s₁} {t} {t′} {e} {hh} {j} {a} {b} {c} ee jv bl de em eh = record {
-    by = λ y. let u = vector-is y in let sc = y .scope in let h = here .height in let K = u .list in let four = name-long (u .left) in let sa = jv .by sc _ K (y .shows)
+    by = λ y. let u = vector-is y in let sc = y .scope in let h = here .height in let K = u .list in let four = name-long (u .left) in
+        let sa = jv .by sc _ K (y .shows)
         (vector-fine y .0) (u .lies-list) (omega arith) in let d = de .by (vector-names ee y) in let w = says-word (forVector text sc K) sa in
         let two : here .top + 2 * length (u .left ∷ []) ≡ here .top + 2 = omega arith in
         rw (u .same)

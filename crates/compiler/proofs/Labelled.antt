@@ -11,7 +11,8 @@ use Rattle.language.specs.Faults.{repeated}
 use Rattle.tree.specs.Encoding as O
 use Rattle.compiler.proofs.Common.{keeps-all, did-none, did-then, did-as, same-refl, same-eq, code-is, kind-is, IsTwo, two-closed, sub}
 use Rattle.compiler.proofs.Vocabulary.{State, Here, Ways, Node, FineC, FinePlain, inside, leavableBy, NodeAt, Lies, STRINGS, cmdSays, ReadyC}
-use Rattle.compiler.proofs.Vocabulary.{GaveC, GaveCase, encodeRepeated, deepRepeated, FineRepeated, ReadyR, GaveR, ReadyMisplaced, Misplaces}
+use Rattle.compiler.proofs.Vocabulary.{GaveC, GaveCase, Repeated, encodeRepeated, deepRepeated, FineRepeated, ReadyR, GaveR, ReadyMisplaced}
+use Rattle.compiler.proofs.Vocabulary.{Misplaces}
 use Rattle.compiler.proofs.Calls.{with-state}
 use Rattle.compiler.proofs.Guards.{IsClosed, unlabelled-closed}
 use Rattle.compiler.proofs.Forms.{form-of, form-small}
@@ -48,22 +49,65 @@ is-labelled (T.command (T.default p ∷ ls) u rs) f h e q =
 -- ---- without
 
 pub record IsBare (s : List ℕ) (lo end : ℕ) (c : Command) : Type 0 where
-  pub body : Unlabelled
-  pub forms : Repeats
-  pub same : c ≡ T.command [] body forms
-  pub lies : Lies s lo (O.repeated (encodeUnlabelled body) (encodeRepeats forms))
-  pub ends : end ≡ lo + length (O.repeated (encodeUnlabelled body) (encodeRepeats forms))
+  pub part : Repeated
+  pub same : c ≡ T.command [] (part .body) (part .forms)
+  pub lies : Lies s lo (encodeRepeated part)
+  pub ends : end ≡ lo + length (encodeRepeated part)
 
 pub is-bare : {s : List ℕ} {lo end : ℕ} (c : Command) → Lies s lo (encodeCommand c) → end ≡ lo + length (encodeCommand c)
     → (getD s (end - 1) 0 ≡ O.LABELLED → ⊥) → IsBare s lo end c
 unfolding encodeCommand labelled encodeLabels
-is-bare (T.command [] u rs) h e q = record { body = u; forms = rs; same = refl; lies = h; ends = e }
+is-bare (T.command [] u rs) h e q = record { part = record { body = u; forms = rs }; same = refl; lies = h; ends = e }
 is-bare (T.command (T.case p c ∷ ls) u rs) h e q = absurd
     (q (kind-is (encodeLabels (T.case p c ∷ ls) ++ O.repeated (encodeUnlabelled u) (encodeRepeats rs)) (length (encodeLabels (T.case p c ∷ ls))) 0
     O.LABELLED h e))
 is-bare (T.command (T.default p ∷ ls) u rs) h e q = absurd
     (q (kind-is (encodeLabels (T.default p ∷ ls) ++ O.repeated (encodeUnlabelled u) (encodeRepeats rs)) (length (encodeLabels (T.default p ∷ ls))) 0
     O.LABELLED h e))
+
+-- ---- what follows the labels: nothing, which is an empty command, or a command with its REPEAT forms
+
+pub closed-long : {x : List ℕ} → IsClosed x → 4 ≤ length x
+closed-long u = omega (arith, ap length (u .is), length-append (u .inner) (length (u .inner) ∷ u .value ∷ u .place ∷ u .kind ∷ []))
+
+full : {A : Type 0} (u : Unlabelled) → FinePlain u → length (encodeUnlabelled u) ≡ 0 → A
+full u f z = absurd (omega (arith, closed-long (unlabelled-closed u f)))
+
+repeated-long : (w x : List ℕ) → length w ≤ length (O.repeated w x)
+unfolding O.repeated
+repeated-long w [] = omega arith
+repeated-long w (a ∷ x) =
+    omega (arith, length-append (w ++ (a ∷ x)) (length (w ++ (a ∷ x)) ∷ length w ∷ 0 ∷ O.REPEATED ∷ []), length-append w (a ∷ x))
+
+nothing-left : (u : Unlabelled) → FineUnlabelled STRINGS u → length (encodeUnlabelled u) ≡ 0 → u ≡ T.empty
+nothing-left T.empty f z = refl
+nothing-left (T.assignment ls rs) f z = full _ (f, λ e. contradiction cc) z
+nothing-left (T.callCommand d) f z = full _ (f, λ e. contradiction cc) z
+nothing-left (T.test d c c′) f z = full _ (f, λ e. contradiction cc) z
+nothing-left (T.guarded w d c) f z = full _ (f, λ e. contradiction cc) z
+nothing-left (T.for x d d′ k c) f z = full _ (f, λ e. contradiction cc) z
+nothing-left (T.switchon d cs) f z = full _ (f, λ e. contradiction cc) z
+nothing-left (T.resultis p d) f z = full _ (f, λ e. contradiction cc) z
+nothing-left (T.leave w p) f z = full _ (f, λ e. contradiction cc) z
+nothing-left (T.block ls cs) f z = full _ (f, λ e. contradiction cc) z
+
+-- an empty command has no REPEAT forms
+pub something-left : (ls : List Label) (r : Repeated) → FineC (T.command ls (r .body) (r .forms)) → (length (encodeRepeated r) ≡ 0 → ⊥)
+    → FineRepeated r
+unfolding FineCommand O.repeated encodeUnlabelled encodeRepeats
+something-left ls r f n = ((f .1, λ e. n (rw (e, f .3 .alone e))), f .2)
+
+pub command-deep : (ls : List Label) (r : Repeated) {c : Command} {k : ℕ} → c ≡ T.command ls (r .body) (r .forms) → commandDepth c ≤ k
+    → deepRepeated r + 1 ≤ k
+unfolding commandDepth
+command-deep ls r e l = omega (arith, ap commandDepth e)
+
+some-depth : (c : Command) → 1 ≤ commandDepth c
+unfolding commandDepth
+some-depth (T.command ls u rs) = omega arith
+
+pub command-some : {s : List ℕ} {end : ℕ} {here : Here} {st : State} → ReadyC s end here st → 1 ≤ here .left
+command-some y = omega (arith, some-depth (y .tree))
 
 -- ---- the labels are judged, then the rest is walked
 
@@ -112,84 +156,28 @@ module _ {s : List ℕ} {end : ℕ} {here : Here} {st : State} (n : Node) (nd : 
         };
   }
 
--- ---- what follows the labels: nothing, which is an empty command, or a command with its REPEAT forms
-
-pub closed-long : {x : List ℕ} → IsClosed x → 4 ≤ length x
-closed-long u = omega (arith, ap length (u .is), length-append (u .inner) (length (u .inner) ∷ u .value ∷ u .place ∷ u .kind ∷ []))
-
-full : {A : Type 0} (u : Unlabelled) → FinePlain u → length (encodeUnlabelled u) ≡ 0 → A
-full u f z = absurd (omega (arith, closed-long (unlabelled-closed u f)))
-
-repeated-long : (w x : List ℕ) → length w ≤ length (O.repeated w x)
-unfolding O.repeated
-repeated-long w [] = omega arith
-repeated-long w (a ∷ x) =
-    omega (arith, length-append (w ++ (a ∷ x)) (length (w ++ (a ∷ x)) ∷ length w ∷ 0 ∷ O.REPEATED ∷ []), length-append w (a ∷ x))
-
-nothing-left : (u : Unlabelled) → FineUnlabelled STRINGS u → length (encodeUnlabelled u) ≡ 0 → u ≡ T.empty
-nothing-left T.empty f z = refl
-nothing-left (T.assignment ls rs) f z = full _ (f, λ e. contradiction cc) z
-nothing-left (T.callCommand d) f z = full _ (f, λ e. contradiction cc) z
-nothing-left (T.test d c c′) f z = full _ (f, λ e. contradiction cc) z
-nothing-left (T.guarded w d c) f z = full _ (f, λ e. contradiction cc) z
-nothing-left (T.for x d d′ k c) f z = full _ (f, λ e. contradiction cc) z
-nothing-left (T.switchon d cs) f z = full _ (f, λ e. contradiction cc) z
-nothing-left (T.resultis p d) f z = full _ (f, λ e. contradiction cc) z
-nothing-left (T.leave w p) f z = full _ (f, λ e. contradiction cc) z
-nothing-left (T.block ls cs) f z = full _ (f, λ e. contradiction cc) z
-
--- an empty command has no REPEAT forms
-empty-alone : (ls : List Label) (u : Unlabelled) (rs : Repeats) → FineC (T.command ls u rs) → u ≡ T.empty → rs ≡ T.noRepeats
-unfolding FineCommand
-empty-alone ls u rs f e = f .3 .alone e
-
-empty-length : length (O.repeated (encodeUnlabelled T.empty) (encodeRepeats T.noRepeats)) ≡ 0
-unfolding O.repeated encodeUnlabelled encodeRepeats
-empty-length = refl
-
-pub something-left : (ls : List Label) (u : Unlabelled) (rs : Repeats) → FineC (T.command ls u rs)
-    → (length (O.repeated (encodeUnlabelled u) (encodeRepeats rs)) ≡ 0 → ⊥) → FineRepeated (record { body = u; forms = rs })
-unfolding FineCommand
-something-left ls u rs f n = ((f .1, λ e. n (rw (e, empty-alone ls u rs f e, empty-length))), f .2)
-
-pub command-deep : (ls : List Label) (u : Unlabelled) (rs : Repeats) {c : Command} {k : ℕ} → c ≡ T.command ls u rs → commandDepth c ≤ k
-    → deepRepeated (record { body = u; forms = rs }) + 1 ≤ k
-unfolding commandDepth
-command-deep ls u rs e l = omega (arith, ap commandDepth e)
-
-some-depth : (c : Command) → 1 ≤ commandDepth c
-unfolding commandDepth
-some-depth (T.command ls u rs) = omega arith
-
-pub command-some : {s : List ℕ} {end : ℕ} {here : Here} {st : State} → ReadyC s end here st → 1 ≤ here .left
-command-some y = omega (arith, some-depth (y .tree))
-
-module _ {s : List ℕ} {end : ℕ} {here : Here} {st : State} (n : Node) (nd : NodeAt s end n) (q : n .kind ≡ O.LABELLED) {middle : ℕ}
-    (m : middle ≡ n .start + n .value) where
-  pub rest-length : (y : ReadyC s end here st)
-      → let u = labelled-is n nd q m y in n .inner ≡ middle + length (O.repeated (encodeUnlabelled (u .list .body)) (encodeRepeats (u .list .forms)))
-  rest-length y = let u = labelled-is n nd q m y in omega (arith, labelled-start n nd q m y)
+  pub rest-length : (y : ReadyC s end here st) → n .inner ≡ middle + length (encodeRepeated (labelled-is y .list))
+  rest-length y = let u = labelled-is y in omega (arith, labelled-start y)
 
   pub bare-empty : middle ≡ n .inner → (text : List ℕ) (ways : Ways) {t : List ℕ} → GaveCase text s s end here ways t t st st
   unfolding FineCommand inCase inUnlabelled inRepeats command unlabelled repeats G.cmdCode ofCmd G.cmdLabels
   bare-empty e text ways {t} = record {
-    by = λ y. let u = labelled-is n nd q m y in let f = labelled-fine n nd q m y .0 in let b = u .list .body in let rs = u .list .forms in
+    by = λ y. let u = labelled-is y in let f = labelled-fine y .0 in let b = u .list .body in let rs = u .list .forms in
         let z = nothing-left b (f .1) (omega (arith, rest-length y, repeated-long (encodeUnlabelled b) (encodeRepeats rs))) in
-        rw (u .same, empty-alone (u .left) b rs f z, z) (record { keeps = keeps-all; did = did-none _ });
+        rw (u .same, f .3 .alone z, z) (record { keeps = keeps-all; did = did-none _ });
   }
 
   module _ (some : middle ≡ n .inner → ⊥) where
     abbrev pub labelled-rest : ReadyC s end here st → ReadyR s (n .inner) (inside here) st
-    labelled-rest y = let u = labelled-is n nd q m y in let f = labelled-fine n nd q m y .0 in
-        sub y keeps-all (u .lies-list) refl
-        (omega (arith, command-deep (u .left) (u .list .body) (u .list .forms) (u .same) (y .shallow))) (something-left (u .left) (u .list .body) (u .list .forms) f
-        (λ z. some (omega (arith, rest-length y))))
+    labelled-rest y = let u = labelled-is y in let d = command-deep (u .left) (u .list) (u .same) (y .shallow) in
+        sub y keeps-all (u .lies-list) refl (omega (arith, d))
+        (something-left (u .left) (u .list) (labelled-fine y .0) (λ z. some (omega (arith, rest-length y))))
 
     pub bare-labelled : (text : List ℕ) (ways : Ways) {s₁ t t₁ : List ℕ} {r : State} → GaveR text s s₁ (n .inner) (inside here) ways t t₁ st r
         → GaveCase text s s₁ end here ways t t₁ st r
     unfolding inCase command
     bare-labelled text ways g = record {
-      by = λ y. let u = labelled-is n nd q m y in let x = g .by (labelled-rest y) in rw (u .same) (record {
+      by = λ y. let u = labelled-is y in let x = g .by (labelled-rest y) in rw (u .same) (record {
         keeps = x .keeps;
         did = did-as _ _ (x .did) same-refl (λ k v. refl) (omega (arith, ap (λ (c : Command). length (encodeCommand c)) (u .same)));
       });
@@ -201,14 +189,13 @@ module _ {s : List ℕ} {end : ℕ} {here : Here} {st : State} (n : Node) (nd : 
   pub bare-is : (y : ReadyC s end here st) → IsBare s (y .lo) end (y .tree)
   bare-is y = is-bare (y .tree) (y .lies) (y .ends) (λ e. q (nd .kind ∙ e))
 
-  pub bare-fine : (y : ReadyC s end here st) → let u = bare-is y in FineRepeated (record { body = u .body; forms = u .forms })
+  pub bare-fine : (y : ReadyC s end here st) → FineRepeated (bare-is y .part)
   unfolding FineCommand
-  bare-fine y = let u = bare-is y in let f = subst FineC (u .same) (y .fine) in (plain-when (u .body) (u .forms) f, f .2)
+  bare-fine y = let u = bare-is y in let f = subst FineC (u .same) (y .fine) in (plain-when (u .part .body) (u .part .forms) f, f .2)
 
   abbrev pub bare-part : ReadyC s end here st → ReadyR s end (inside here) st
   bare-part y = let u = bare-is y in
-      sub {part = record { body = u .body; forms = u .forms }} y keeps-all (u .lies) refl
-      (omega (arith, command-deep [] (u .body) (u .forms) (u .same) (y .shallow))) (bare-fine y)
+      sub y keeps-all (u .lies) refl (omega (arith, command-deep [] (u .part) (u .same) (y .shallow))) (bare-fine y)
 
   pub bare-gave : (text : List ℕ) (ways : Ways) {s₁ t t₁ : List ℕ} {r : State} → GaveR text s s₁ end (inside here) ways t t₁ st r
       → GaveCase text s s₁ end here ways t t₁ st r

@@ -181,7 +181,8 @@ module _ (text t₀ : List ℕ) {s₀ table₀ : List ℕ} {base end left string
       → GaveProgram text s₀ s table₀ table base end left strings t₀ t d₀ (l .done)
   unfolding faultsFrom functionsFrom
   program-end {s} {table} {t} {at} lt q = record {
-    by = λ y. let p = q y in let e = no-declaration (p .left-over .rest) (p .left-over .ends) lt in let fe : p .found ≡ faultsFrom text begin (y .program)
+    by = λ y. let p = q y in let e = no-declaration (p .left-over .rest) (p .left-over .ends) lt in
+        let fe : p .found ≡ faultsFrom text begin (y .program)
         = cc (append-nil (p .found)) in
         let me : p .made ≡ functionsFrom text begin (y .program) = cc (append-nil (p .made)) in let r = yields-as
         (2 * length (encodeProgram (y .program))) fe me (omega arith) (p .yields) in

@@ -23,7 +23,8 @@ pub small-found : (text : List ℕ) (sc : Scope) (n : Name) (m : ℕ) → Small 
 unfolding Small lookup
 small-found text N.outermost n m h e = contradiction cc
 small-found text (N.opened s) n m h e = small-found text s n m h e
-small-found text (N.declared s x w) n m h e = by-cases (sameName text x n) (λ b. here w h (rw b at e)) (λ b. small-found text s n m (below w h) (rw b at e))
+small-found text (N.declared s x w) n m h e = by-cases (sameName text x n) (λ b. here w h (rw b at e)) (λ b. small-found text s n m (below w h)
+    (rw b at e))
   where
     here : (w : N.Meaning) → Small (N.declared s x w) → N.known w ≡ N.known (N.global m) → m < 400
     here (N.global k) h e = let z : k ≡ m = cc in omega arith

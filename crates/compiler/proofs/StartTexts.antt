@@ -79,8 +79,14 @@ one-start : {table : List ℕ} {k : ℕ} {ss : List Start} (s : Start) → lengt
     → StartsAt table (suc k) s
 one-start {table} {k} s l q e = record {
   is = λ n h g. sym e ∙ q .is n k h g;
-  has = λ n g. let z : getD table n 0 ≡ suc k = q .has n k (e ∙ g) in
-      (by-cases (ltb n 400) (ltb-true n 400) (λ h. absurd (omega (arith, List·getD-eq-default table 0 {n = n} (omega (arith, ltb-false n 400 h))))), z);
+  has = λ n g. let z : getD table n 0 ≡ suc k = q .has n k (e ∙ g) in (
+    by-cases (ltb n 400) (ltb-true n 400) (λ h. absurd (omega (
+      arith,
+      List·getD-eq-default table 0 {n = n} (omega
+          (arith, ltb-false n 400 h)),
+    ))),
+    z,
+  );
 }
 
 first-fun : (fs : List Fun) → 0 < length fs → (f : Fun) × (b : List Fun) × (fs ≡ f ∷ b)
@@ -96,7 +102,8 @@ pub starts-next : {table : List ℕ} {functions k at x r : ℕ} {t t₁ t₂ : L
 unfolding startsCode
 starts-next {k = k} h w q = record {
   by = λ fs l e s. let y = q .by fs l e s in let u = first-fun (y .rest) (omega (arith, ap length (y .all), length-append (y .done) (y .rest))) in
-      let f = u .0 in let b = u .1 in let a : fs ≡ y .done ++ (f ∷ b) = y .all ∙ ap (λ (z : List Fun). y .done ++ z) (u .2) in let j : k + 1 ≡ suc k = omega arith in
+      let f = u .0 in let b = u .1 in let a : fs ≡ y .done ++ (f ∷ b) = y .all ∙ ap (λ (z : List Fun). y .done ++ z) (u .2) in
+      let j : k + 1 ≡ suc k = omega arith in
       let j′ : 1 + length (y .done) ≡ k + 1 = omega arith in
       let g : getD (startsOf fs) k nowhere ≡ f .start = cc (a, y .count, starts-at (y .done) f b) in
       record {
@@ -113,5 +120,6 @@ pub starts-end : {table : List ℕ} {functions k at x : ℕ} {t t′ : List ℕ}
     → WritesStarts table functions at x t t′
 starts-end h q = record {
   by = λ fs l e s. let y = q .by fs l e s in
-      let z = no-fun (y .rest) (omega (arith, ap length (y .all), length-append (y .done) (y .rest))) in puts-as (y .puts) (simp (y .all, z, append-nil));
+      let z = no-fun (y .rest) (omega (arith, ap length (y .all), length-append (y .done) (y .rest))) in
+      puts-as (y .puts) (simp (y .all, z, append-nil));
 }

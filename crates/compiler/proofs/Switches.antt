@@ -189,7 +189,11 @@ module _ {s : List ℕ} {end : ℕ} {here : Here} {st : State} (n : Node) (nd : 
               keeps = keeps-then (x .keeps) (z .keeps);
               did = did-as (cmdSays here ways (R.switch E CS)) _ (did-then (with-ways text sc here ways h (u .left) (x .did)) rest)
                   (same-both (same-refl {a = inExpression text sc lv h (u .left)}) (same-then (same-eq (rw ls)) (cases-same text sc (Y.inSwitch lv) h
-                  [] (u .list)))) (λ p c. code-is refl refl (omega arith)) (omega (arith, ap (λ (v : Unlabelled). length (encodeUnlabelled v)) (u .same)));
+                  [] (u .list)))) (λ p c. code-is refl refl (omega arith)) (omega (
+                    arith,
+                    ap (λ (v : Unlabelled). length (encodeUnlabelled v))
+                        (u .same),
+                  ));
             });
       }
 

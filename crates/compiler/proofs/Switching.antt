@@ -149,7 +149,8 @@ module _ (s : List ℕ) (end : ℕ) where
 
   module _ {at next k : ℕ} (l : at < end) (n : NextItem s at end next) (f : CountsLabel s next k) where
     pub among-next : (k ≡ 0 → ⊥) → (ls : List Label) → AmongPart at ls → AmongPart next ls
-    among-next z ls p = left-next l n p (λ x xs e q h text sc. h text sc ∙ default-first text sc x xs ∙ rw (ne-eqb (caseItems (x ∷ [])) 0 (λ w. z (f .by x q ∙ w))))
+    among-next z ls p = left-next l n p (λ x xs e q h text sc. h text sc ∙ default-first text sc x xs ∙ rw (ne-eqb (caseItems (x ∷ [])) 0 (λ w. z
+        (f .by x q ∙ w))))
 
     pub among-found : k ≡ 0 → (ls : List Label) → AmongPart at ls → (text : List ℕ) (sc : Scope) → true ≡ hasDefault (labelsOf text sc ls)
     among-found z ls p text sc = left-next {Q′ = λ rest. true ≡ hasDefault (labelsOf text sc ls)} l n p
@@ -241,7 +242,8 @@ module _ (text : List ℕ) {s : List ℕ} {end top : ℕ} (n : Node) (nd : NodeA
   unfolding labelsOf G.pairsOf
   pair-not {k} {t} {st} q = record {
     still = still-here;
-    by = λ sc l sh a so. at-default (λ x. Emits (G.pairsOf k (labelsOf text sc (x ∷ []))) [] t t st st) (λ z. q (nd .kind ∙ z)) (λ p e. emits-none) l a;
+    by = λ sc l sh a so. at-default (λ x. Emits (G.pairsOf k (labelsOf text sc (x ∷ []))) [] t t st st) (λ z. q (nd .kind ∙ z))
+        (λ p e. emits-none) l a;
   }
 
   pub pair-is : {k : ℕ} {t t₁ t₂ : List ℕ} {st a r : State} {j : Verdict} → n .kind ≡ 28 → Judges text s (n .inner) top j
@@ -250,7 +252,8 @@ module _ (text : List ℕ) {s : List ℕ} {end top : ℕ} (n : Node) (nd : NodeA
   pair-is {k} {t} {t₂ = t₂} {st} {r = r} q g d e = record {
     still = still-then (emits-still d) (emits-still e);
     by = λ sc l sh a so. at-case (λ x. Sound text sc (x ∷ []) → Emits (G.pairsOf k (labelsOf text sc (x ∷ []))) [] t t₂ st r) (sym (nd .kind) ∙ q)
-        (λ p lo c z h en f so. let w = first-good so in emits-as (emits-then d e) (sym (rw (says-is (g .by sc lo c sh f h (nd .inner ∙ en)) (w .is)))))
+        (λ p lo c z h en f so. let w = first-good so in emits-as (emits-then d e) (sym (rw (says-is (g .by sc lo c sh f h (nd .inner ∙ en))
+        (w .is)))))
         l a so;
   }
 

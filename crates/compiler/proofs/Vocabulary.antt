@@ -16,7 +16,7 @@ unfoldable pub use Rattle.compiler.specs.Scope.{code, found}
 pub use Rattle.compiler.specs.Fine.{FineC, FineCs, FineE, FineEs, FineLs, FineOs, FinePlain, FineRs, FineSs, STRINGS}
 pub use Rattle.compiler.specs.Commands.{Again, Declares, FineRepeated, GaveC, GaveCase, GaveCases, GaveForm, GaveForms, GaveList, GaveR, GaveU}
 pub use Rattle.compiler.specs.Commands.{GoesAway, ReadyC, ReadyCases, ReadyForm, ReadyForms, ReadyList, ReadyNames, ReadyR, ReadyU, casesSays}
-pub use Rattle.compiler.specs.Commands.{cmdSays, cmdsSays, deepRepeated, encodeRepeated, formSays}
+pub use Rattle.compiler.specs.Commands.{Repeated, cmdSays, cmdsSays, deepRepeated, encodeRepeated, formSays}
 unfoldable pub use Rattle.compiler.specs.Commands.{casesFaults, entriesIn}
 pub use Rattle.compiler.specs.Switching.{JudgesBy, JudgesLabels, Misplaces, ReadyLabels, ReadyMisplaced, WritesTable, byJudged, tableItems}
 unfoldable pub use Rattle.compiler.specs.Switching.{labelFaults}
