@@ -1,6 +1,5 @@
 -- A command by the kind of its record: what it is and where its parts stand.
-use Rattle.laws.proofs.Basics.{ℕ, _+_, _-_, _≤_, _≡_, refl, sym, subst, _∙_, List, [], _∷_, _++_, true, false, Option, length, getD, eqb, arith}
-use Rattle.laws.proofs.Basics.{eqb-true}
+use Rattle.laws.proofs.Basics.{ℕ, _+_, _-_, _≡_, refl, sym, subst, _∙_, List, [], _∷_, _++_, true, false, Option, length, getD, eqb, eqb-true}
 use Rattle.laws.proofs.Cases.{by-cases, contradiction}
 use Rattle.language.specs.Kinds as K
 use Rattle.language.specs.Kinds.{member}
@@ -52,25 +51,6 @@ module _ (s : List ℕ) (lo end : ℕ) where
     aLoop : {p : ℕ} → getD s (end - 2) 0 ≡ p → Form K.LOOP (T.leave K.LOOP p)
     aReturn : {p : ℕ} → getD s (end - 2) 0 ≡ p → Form K.RETURN (T.leave K.RETURN p)
     aFinish : {p : ℕ} → getD s (end - 2) 0 ≡ p → Form K.FINISH (T.leave K.FINISH p)
-
-  -- a command alone has neither labels nor REPEAT forms
-  pub form-small : {k : ℕ} {u : Unlabelled} → Form k u → k ≤ O.CALLED
-  form-small (anAssignment h v p z q) = omega arith
-  form-small (aCall h q c) = omega arith
-  form-small (aTest h q) = omega arith
-  form-small (anIf h q) = omega arith
-  form-small (anUnless h q) = omega arith
-  form-small (aWhile h q) = omega arith
-  form-small (anUntil h q) = omega arith
-  form-small (aFor h v q) = omega arith
-  form-small (aSwitch h) = omega arith
-  form-small (aResult p h q) = omega arith
-  form-small (aBlock h) = omega arith
-  form-small (anEndcase h) = omega arith
-  form-small (aBreak h) = omega arith
-  form-small (aLoop h) = omega arith
-  form-small (aReturn h) = omega arith
-  form-small (aFinish h) = omega arith
 
   so : {k : ℕ} {u : Unlabelled} → getD s (end - 1) 0 ≡ k → Form k u → Form (getD s (end - 1) 0) u
   so q c = rw q c

@@ -15,7 +15,7 @@ use Rattle.compiler.proofs.Vocabulary.{GaveC, GaveCase, Repeated, encod
 use Rattle.compiler.proofs.Vocabulary.{Misplaces}
 use Rattle.compiler.proofs.Calls.{with-state}
 use Rattle.compiler.proofs.Guards.{IsClosed, unlabelled-closed}
-use Rattle.compiler.proofs.Forms.{form-of, form-small}
+use Rattle.compiler.proofs.Forms.{form-of}
 
 -- ---- with labels
 
@@ -27,7 +27,7 @@ not-labelled : {s : List ℕ} {lo end : ℕ} (u : Unlabelled) (rs : Repeats) →
     → Lies s lo (O.repeated (encodeUnlabelled u) (encodeRepeats rs))
     → end ≡ lo + length (O.repeated (encodeUnlabelled u) (encodeRepeats rs)) → getD s (end - 1) 0 ≡ O.LABELLED → ⊥
 unfolding O.repeated encodeRepeats
-not-labelled {s} {lo} {end} u T.noRepeats f h e q = omega (arith, form-small s lo end (form-of s lo end u f h e))
+not-labelled {s} {lo} {end} u T.noRepeats f h e q = elim (rw q at (form-of s lo end u f h e)) [ ]
 not-labelled u (T.repeat rs) f h e q =
     omega (arith, kind-is (encodeUnlabelled u ++ encodeRepeats (T.repeat rs)) (length (encodeUnlabelled u)) 0 O.REPEATED h e)
 not-labelled u (T.repeatOn w d rs) f h e q =

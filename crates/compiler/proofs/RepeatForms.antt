@@ -21,7 +21,7 @@ use Rattle.compiler.proofs.Labelled.{closed-long}
 use Rattle.compiler.proofs.Counting.{repeat-items}
 use Rattle.compiler.proofs.Conditions.{leaves-loop}
 use Rattle.compiler.proofs.Repeating.{repeats-code, repeats-heights, repeats-labels}
-use Rattle.compiler.proofs.Forms.{form-of, form-small}
+use Rattle.compiler.proofs.Forms.{form-of}
 
 -- ---- one form
 
@@ -213,7 +213,7 @@ is-repeated : {s : List ℕ} {lo end : ℕ} (u : Unlabelled) (rs : Repeats) → 
     → end ≡ lo + length (O.repeated (encodeUnlabelled u) (encodeRepeats rs)) → getD s (end - 1) 0 ≡ O.REPEATED
     → (1 ≤ forms rs) × TwoAt s lo end (encodeUnlabelled u) (encodeRepeats rs)
 unfolding O.repeated encodeRepeats forms
-is-repeated {s} {lo} {end} u T.noRepeats f h e q = absurd (omega (arith, form-small s lo end (form-of s lo end u f h e)))
+is-repeated {s} {lo} {end} u T.noRepeats f h e q = elim (rw q at (form-of s lo end u f h e)) [ ]
 is-repeated u (T.repeat rs) f h e q = (omega arith, two-at (encodeUnlabelled u) (encodeRepeats (T.repeat rs)) 0 O.REPEATED h e)
 is-repeated u (T.repeatOn w d rs) f h e q = (omega arith, two-at (encodeUnlabelled u) (encodeRepeats (T.repeatOn w d rs)) 0 O.REPEATED h e)
 
