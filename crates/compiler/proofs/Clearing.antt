@@ -85,11 +85,8 @@ refused-text source text t′ w (refused number place) e l = let z : length t′
 -- what is accepted is faithful and proper
 accepts : (source : List ℕ) (scratch room : ℕ) → decided source scratch room ≡ accepted → refusalOf source scratch ≡ accepted
 unfolding decided refusalIn
-accepts source scratch room h = go (refusalOf source scratch) h
-  where
-    go : (x : Refused) → unlessFits (length (textOf source)) room x ≡ accepted → x ≡ accepted
-    go accepted h = refl
-    go (refused number place) h = h
+accepts source scratch room = elim (refusalOf source scratch) as (λ x. unlessFits (length (textOf source)) room x ≡ accepted → x ≡ accepted)
+    [ accepted ↦ λ h. refl | refused number place ↦ λ h. h ]
 
 module _ {source scratch scratch′ text text₁ : List ℕ} {a : Compiled} (t : Translates source scratch scratch′ text text₁ a)
     (l : length text₁ ≡ length text) where

@@ -1,7 +1,6 @@
 -- Names declared one after another.
 use Rattle.laws.proofs.Basics.{ℕ, _+_, _*_, _^_, _<_, _≤_, _≡_, refl, sym, ap, subst, _∙_, List, [], _∷_, length, getD, arith}
-use Rattle.compiler.proofs.Language.{Name, Scope, declared, inBlock, onFound, fault, declareAll, twice, encodeName, encodeNames, FineName}
-use Rattle.compiler.proofs.Language.{FineNames}
+use Rattle.compiler.proofs.Language.{Name, Scope, declared, inBlock, declareAll, twice, encodeName, encodeNames, FineName, FineNames}
 use Rattle.language.specs.Names as N
 use Rattle.compiler.proofs.Vocabulary.{Shows, Keeps, PushedName, Told, code, found, nameAt, State, Did, Faulted, Lies, ReadyNames, Declares}
 use Rattle.compiler.proofs.Vocabulary.{Again}
@@ -14,11 +13,7 @@ again-not z = record { by = λ f e t. rw (means-unknown f e z) (did-none 0) }
 
 pub again-so : {m place : ℕ} {st r : State} → (m ≡ 0 → ⊥) → Faulted place 9 st r → Again m place st r
 unfolding found
-again-so {m} {place} {st} {r} n f = record { by = by }
-  where
-    by : (g : N.Found) → m ≡ found g → (t : List ℕ) → Did (onFound g [] (fault place 9)) nothing 0 t t st r
-    by N.unknown q t = absurd (n q)
-    by (N.known w) q t = f .by nothing t
+again-so n f = record { by = elim [ N.unknown ↦ λ q t. absurd (n q) | N.known w ↦ λ q t. f .by nothing t ] }
 
 -- ---- the loop
 

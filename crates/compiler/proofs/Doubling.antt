@@ -23,11 +23,9 @@ use Rattle.compiler.proofs.Switching.{list-of, own-labels}
 labels-then : (text : List ℕ) (sc : Scope) (ls ms : List Label) → labelsOf text sc (ls ++ ms) ≡ labelsOf text sc ls ++ labelsOf text sc ms
 unfolding labelsOf
 labels-then text sc [] ms = refl
-labels-then text sc (T.case p c ∷ ls) ms = ap (goodCase (judge text sc c)) (labels-then text sc ls ms) ∙ go (judge text sc c)
-  where
-    go : (j : Judged) → goodCase j (labelsOf text sc ls ++ labelsOf text sc ms) ≡ goodCase j (labelsOf text sc ls) ++ labelsOf text sc ms
-    go (good v) = refl
-    go (refused fs) = refl
+labels-then text sc (T.case p c ∷ ls) ms = let xs = labelsOf text sc ls in let ys = labelsOf text sc ms in
+    rw (labels-then text sc ls ms) (elim (judge text sc c) as (λ j. goodCase j
+    (xs ++ ys) ≡ goodCase j xs ++ ys) [ good v ↦ refl | refused fs ↦ refl ])
 labels-then text sc (T.default p ∷ ls) ms = rw (labels-then text sc ls ms)
 
 case-after-case : (v w : ℕ) (ls : List CaseLabel) → hasCase v (ls ++ (R.case w ∷ [])) ≡ cond (eqb v w) true (hasCase v ls)

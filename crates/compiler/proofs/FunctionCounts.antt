@@ -69,20 +69,15 @@ module _ {s : List ℕ} {from end at n size word : ℕ} (l : at < end) (es : siz
       }
 
   pub counted-group : {m : ℕ} → word ≡ K.LET → CountsGroup s (at + 2) (at + 2 + size) m → Counted s from end (at + 2 + size) (n + m)
-  counted-group {m} e g = onwards m by
-    where
-      by : (d : Declaration) → word ≡ declaredWord d → Lies s (at + 2) (encodeDeclared d) → size ≡ length (encodeDeclared d) → m ≡ ownCount d
-      by (T.globals is) w h k = absurd (omega arith)
-      by (T.manifests is) w h k = absurd (omega arith)
-      by (T.functions fs) w h k = g .by fs h (omega arith)
+  counted-group {m} e g = onwards m (elim [
+    | T.globals is ↦ λ w h k. absurd (omega arith)
+    | T.manifests is ↦ λ w h k. absurd (omega arith)
+    | T.functions fs ↦ λ w h k. g .by fs h (omega arith)
+  ])
 
   pub counted-other : (word ≡ K.LET → ⊥) → Counted s from end (at + 2 + size) n
-  counted-other e p h k = subst (λ (z : ℕ). Part s (at + 2 + size) end z p) (omega arith) (onwards 0 by p h k)
-    where
-      by : (d : Declaration) → word ≡ declaredWord d → Lies s (at + 2) (encodeDeclared d) → size ≡ length (encodeDeclared d) → 0 ≡ ownCount d
-      by (T.globals is) w h k = refl
-      by (T.manifests is) w h k = refl
-      by (T.functions fs) w h k = absurd (e w)
+  counted-other e p h k = subst (λ (z : ℕ). Part s (at + 2 + size) end z p) (omega arith) (onwards 0
+      (elim [ T.globals is ↦ λ w h k. refl | T.manifests is ↦ λ w h k. refl | T.functions fs ↦ λ w h k. absurd (e w) ]) p h k)
 
   -- a group never reaches past the end
   pub counted-past : end < at + 2 + size → Counted s from end (at + 2 + size) n

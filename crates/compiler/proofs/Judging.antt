@@ -4,12 +4,12 @@ use Rattle.laws.proofs.Basics.{false, cond, length, getD, length-append, leb, a
 use Rattle.words.specs.Words.{word}
 use Rattle.language.specs.Tree as T
 use Rattle.compiler.proofs.Language.{Name, Simple, Constant, expressionsDepth, Scope, lookup, fault, Judged, good, refused, judge, forVector}
-use Rattle.compiler.proofs.Language.{judgedWord, faultsOf, signed, ofFound, ofSimple, within, declareAll, encodeName, encodeNames}
-use Rattle.compiler.proofs.Language.{encodeConstant, encodePositive, encodeNegative, encodeExpressions, FineName, FineNames, FineConstant}
+use Rattle.compiler.proofs.Language.{judgedWord, signed, ofFound, ofSimple, within, declareAll, encodeName, encodeNames, encodeConstant}
+use Rattle.compiler.proofs.Language.{encodePositive, encodeNegative, encodeExpressions, FineName, FineNames, FineConstant}
 use Rattle.language.specs.Names as N
 use Rattle.code.specs.Generate as G
-use Rattle.compiler.proofs.Vocabulary.{Shows, Looked, code, found, nameAt, State, Here, Node, FineEs, NodeAt, Did, Emits, Faulted, Lies}
-use Rattle.compiler.proofs.Vocabulary.{ReadyArgs, GaveArgs, Verdict, ReadyNames, Declares}
+use Rattle.compiler.proofs.Vocabulary.{Shows, Looked, code, found, nameAt, State, Here, Node, FineEs, NodeAt, Emits, Faulted, Lies, ReadyArgs}
+use Rattle.compiler.proofs.Vocabulary.{GaveArgs, Verdict, ReadyNames, Declares}
 use Rattle.compiler.proofs.Common.{keeps-all, keeps-then, keeps-shows, name-there, means-unknown, means-manifest, Held, looked-word, did-none}
 use Rattle.compiler.proofs.Common.{did-then, did-emit, did-as, same-refl, code-is, keeps-lies, kid, ends, value-is, place-is, size-is, kind-is}
 use Rattle.compiler.proofs.Common.{IsTwo, two-closed, sub}
@@ -176,18 +176,10 @@ module _ (most : ℕ) {text s : List ℕ} {end top : ℕ} {j : Verdict} (g : Jud
   }
 
 pub blame-none : {j : Verdict} {st : State} → j .number ≡ 0 → Blames j st st
-blame-none {j} {st} e = record { by = by }
-  where
-    by : (x : Judged) → Says j x → (t : List ℕ) → Did (faultsOf x) nothing 0 t t st st
-    by (good v) (fit q) t = did-none 0
-    by (refused fs) (unfit a b w) t = absurd (b (sym a ∙ e))
+blame-none e = record { by = λ x. elim [ fit q ↦ λ t. did-none 0 | unfit a b w ↦ λ t. absurd (b (sym a ∙ e)) ] }
 
 pub blame-some : {j : Verdict} {st r : State} → (j .number ≡ 0 → ⊥) → Faulted (j .place) (j .number) st r → Blames j st r
-blame-some {j} {st} {r} n f = record { by = by }
-  where
-    by : (x : Judged) → Says j x → (t : List ℕ) → Did (faultsOf x) nothing 0 t t st r
-    by (good v) (fit q) t = absurd (n q)
-    by (refused fs) (unfit a b w) t = rw a at (f .by nothing t)
+blame-some n f = record { by = λ x. elim [ fit q ↦ λ t. absurd (n q) | unfit a b w ↦ λ t. rw a at (f .by nothing t) ] }
 
 pub says-word : {j : Verdict} (x : Judged) → Says j x → j .word ≡ judgedWord x
 says-word (good v) (fit q) = refl

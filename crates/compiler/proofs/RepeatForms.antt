@@ -154,11 +154,10 @@ module _ (text t₀ : List ℕ) (own₀ : ℕ) {s₀ : List ℕ} {from end : ℕ
             (subst FineForm q (both-fine z (y .starts) l es en p .0))
 
         ready-form : ReadyForm s next size here a
-        ready-form = record { on = λ n. by n (one .part) refl }
-          where
-            by : (size ≡ 0 → ⊥) → (f : AForm) → one .part ≡ f → Ready encode depth FineE s next here a
-            by n alone q = absurd (n (rw (forms-size, q)))
-            by n (onTest w e) q = ready-test w e q
+        ready-form = record {
+          on = λ n. elim (one .part) as (λ f. one .part ≡ f → Ready encode depth FineE s next here a)
+              [ alone ↦ λ q. absurd (n (rw (forms-size, q))) | onTest w e ↦ λ q. ready-test w e q ] refl;
+        }
 
         -- what it did
         form-did : {s₁ t₁ t₂ : List ℕ} {b : State} → GaveForm text s s₁ next size word own here t₁ t₂ a b →

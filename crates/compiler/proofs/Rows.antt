@@ -1,9 +1,9 @@
 -- Items of a list by their ends: the loop over them; labels, one by one and before each command of a list; BY's constant.
-use Rattle.laws.proofs.Basics.{ℕ, _+_, _-_, _^_, _<_, _≤_, _≡_, refl, sym, ap, _∙_, List, [], _∷_, _++_, append-nil, Bool, true, false, cond, Option}
-use Rattle.laws.proofs.Basics.{some, none, length, getD, length-append, eqb, arith, eq-eqb, ne-eqb}
+use Rattle.laws.proofs.Basics.{ℕ, _+_, _-_, _^_, _<_, _≤_, _≡_, refl, sym, ap, _∙_, List, [], _∷_, _++_, append-nil, Bool, true, false, cond, some}
+use Rattle.laws.proofs.Basics.{none, length, getD, length-append, eqb, arith, eq-eqb, ne-eqb}
 use Rattle.language.specs.Tree as T
-use Rattle.compiler.proofs.Language.{Simple, Constant, Label, Scope, fault, judge, faultsOf, misplaced, FineConstant, FineBy, FineLabels}
-use Rattle.compiler.proofs.Language.{closed, encodeName, encodeConstant, encodePositive, encodeNegative, encodeBy, encodeLabels}
+use Rattle.compiler.proofs.Language.{Simple, Constant, Label, Scope, fault, judge, faultsOf, misplaced, FineConstant, FineLabels, closed}
+use Rattle.compiler.proofs.Language.{encodeName, encodeConstant, encodePositive, encodeNegative, encodeBy, encodeLabels}
 use Rattle.compiler.proofs.Vocabulary.{Shows, State, Node, NodeAt, Did, Faulted, Lies, Verdict, JudgesBy, byJudged, ReadyMisplaced, Misplaces}
 use Rattle.compiler.specs.Commands.{nothing}
 use Rattle.compiler.specs.Locals.{Says, fit, Judges, Blames}
@@ -26,12 +26,10 @@ constant-long c = go (c .minus) (c .simple)
 module _ (text : List ℕ) {s : List ℕ} {from end top : ℕ} where
   pub by-none : end ≤ from → JudgesBy text s from end top (record { word = 1; number = 0; place = 0 })
   unfolding encodeBy
-  by-none l = record { fits = (omega arith, omega arith); by = go }
-    where
-      go : (sc : Scope) (k : Option Constant) → Shows s top sc → FineBy k → Lies s from (encodeBy k) → end ≡ from + length (encodeBy k)
-          → Says (record { word = 1; number = 0; place = 0 }) (byJudged text sc k)
-      go sc none sh f h e = fit refl
-      go sc (some c) sh f h e = absurd (omega (arith, constant-long c))
+  by-none l = record {
+    fits = (omega arith, omega arith);
+    by = λ sc. elim [ none ↦ λ sh f h e. fit refl | some c ↦ λ sh f h e. absurd (omega (arith, constant-long c)) ];
+  }
 
   -- whatever a constant there is judged, if there is one
   judges-by : {r : Verdict} → from < end → (r .place < 2 ^ 32) × (r .number < 32)
@@ -39,12 +37,7 @@ module _ (text : List ℕ) {s : List ℕ} {from end top : ℕ} where
       ((sc : Scope) (c : Constant) → Shows s top sc → FineConstant c → Lies s from (encodeConstant c) → end ≡ from + length (encodeConstant c) → Says
       r (byJudged text sc (some c))) → JudgesBy text s from end top r
   unfolding encodeBy
-  judges-by {r} l f g = record { fits = f; by = go }
-    where
-      go : (sc : Scope) (k : Option Constant) → Shows s top sc → FineBy k → Lies s from (encodeBy k) → end ≡ from + length (encodeBy k)
-          → Says r (byJudged text sc k)
-      go sc none sh f h e = absurd (omega arith)
-      go sc (some c) sh f h e = g sc c sh f h e
+  judges-by l f g = record { fits = f; by = λ sc. elim [ none ↦ λ sh f h e. absurd (omega arith) | some c ↦ λ sh f h e. g sc c sh f h e ] }
 
   module _ {j : Verdict} (l : from < end) (g : Judges text s end top j) where
     pub by-judged : (j .number ≡ 0 → j .word ≡ 0 → ⊥) → JudgesBy text s from end top j

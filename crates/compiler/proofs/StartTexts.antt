@@ -38,11 +38,9 @@ start-put {table} {label} {n} f h p = record { by = λ start s. rw (s .is n h (f
 
 pub start-none : {table : List ℕ} {label n at : ℕ} {t : List ℕ} → FindsGlobal table label n → 400 ≤ n → WritesStart table label at at t t
 unfolding lines
-start-none {table} {label} {n} {at} {t} f h = record { by = go }
-  where
-    go : (start : Start) → StartsAt table label start → Puts (lines (startIn start label [])) at at t t
-    go nowhere s = puts-none
-    go (inGlobal m) s = absurd (let q = s .has m refl in f .none h m (q .0) (q .1))
+start-none f h = record {
+  by = elim [ nowhere ↦ λ s. puts-none | inGlobal m ↦ λ s. absurd (let q = s .has m refl in f .none h m (q .0) (q .1)) ];
+}
 
 -- ---- all of them: k functions are done
 
@@ -64,11 +62,9 @@ starts-then : (l : ℕ) (a b : List Fun) → startsCode l (a ++ b) ≡ startsCod
 unfolding startsCode
 starts-then l [] b = let z : l + 0 ≡ l = omega arith in rw z
 starts-then l (f ∷ a) b = let z : suc l + length a ≡ l + suc (length a) = omega arith in
-    go (f .start) (startsCode (suc l) a) (startsCode (l + suc (length a)) b) (starts-then (suc l) a b ∙ rw z)
-  where
-    go : (s : Start) (is js : List I.Item) → startsCode (suc l) (a ++ b) ≡ is ++ js → startIn s l (startsCode (suc l) (a ++ b)) ≡ startIn s l is ++ js
-    go nowhere is js e = e
-    go (inGlobal n) is js e = rw e
+    let e : startsCode (suc l) (a ++ b) ≡ startsCode (suc l) a ++ startsCode (l + suc (length a)) b = starts-then (suc l) a b ∙ rw z in
+    elim (f .start) as (λ s. startIn s l (startsCode (suc l) (a ++ b)) ≡ startIn s l (startsCode (suc l) a) ++ startsCode (l + suc (length a)) b)
+    [ nowhere ↦ e | inGlobal n ↦ rw e ]
 
 starts-at : (a : List Fun) (f : Fun) (b : List Fun) → getD (startsOf (a ++ (f ∷ b))) (length a) nowhere ≡ f .start
 unfolding startsOf

@@ -95,11 +95,8 @@ module _ {source s s′ : List ℕ} {a : SymbolsRead} (short : length source ≤
   -- the symbols, or a refusal
   by-symbols : (P : Type 0) → ((ss : List Symbol) → symbolsOf source ≡ good ss → a ≡ YA.Read (length ss) → P)
       → ((number place : ℕ) → symbolsOf source ≡ faulty number place → a ≡ YA.Refused number place → P) → P
-  by-symbols P f g = go (symbolsOf source) refl (r .answers ∙ rw both-ways)
-    where
-      go : (x : Symbols) → symbolsOf source ≡ x → a ≡ outcome (length s) x .answer → P
-      go (good ss) q e = f ss q e
-      go (faulty number place) q e = g number place q e
+  by-symbols P f g = elim (symbolsOf source) as (λ x. symbolsOf source ≡ x → a ≡ outcome (length s) x .answer → P)
+      [ good ss ↦ f ss | faulty number place ↦ g number place ] refl (r .answers ∙ rw both-ways)
 
 module _ {source s s′ : List ℕ} {a : SymbolsRead} (l : Lent source (length s)) (r : Reads source s a s′) where
   room : length source * 3 ≤ length s
@@ -234,11 +231,8 @@ module _ {source s : List ℕ} {count : ℕ} (y : ReadySymbols source s count) w
             (rw (clean-all clean (symbols-room same) c, same))
 
     pub never-unfit : a ≡ RA.TooShort → ⊥
-    never-unfit e = go (treeOf src) (sym e ∙ answer-by)
-      where
-        go : (o : Out Program) → RA.TooShort ≡ R.answerOf src count o → ⊥
-        go (ok p next) w = contradiction cc
-        go (no m at) w = contradiction cc
+    never-unfit e = elim (treeOf src) as (λ o. RA.TooShort ≡ R.answerOf src count o → ⊥)
+        [ ok p next ↦ λ w. contradiction cc | no m at ↦ λ w. contradiction cc ] (sym e ∙ answer-by)
 
 -- ---- the scratch that is lent on
 
