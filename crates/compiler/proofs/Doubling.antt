@@ -152,18 +152,16 @@ module _ (text : List ℕ) {s : List ℕ} {end : ℕ} (top : ℕ) (st r : State)
     }
 
     pub label-refused : {seen : List ℕ} → (j .number ≡ 0 → ⊥) → Blames j st r → JudgesLabel text s end top seen seen st r
-    label-refused {seen} z b = case-by go
-      where
-        go : By seen seen
-        go p ls (good v) (fit w) e low m = absurd (z w)
-        go p ls (refused fs) (unfit a k w) e low m = (rw (append-nil ls) m, b .by (refused fs) (unfit a k w))
+    label-refused z b = case-by (λ p ls x. elim [
+      | fit w ↦ λ e low m. absurd (z w)
+      | unfit a k w ↦ λ e low m. (rw (append-nil ls) m, b .by (refused _) (unfit a k w))
+    ])
 
     pub label-case : {seen seen′ : List ℕ} → j .number ≡ 0 → Notes (j .word) (n .place) seen seen′ st r → JudgesLabel text s end top seen seen′ st r
-    label-case {seen} {seen′} z w = case-by go
-      where
-        go : By seen seen′
-        go p ls (good v) (fit k) e low m = (case-marks w low m, λ t. rw (nd .place ∙ e) at (case-did w low m t))
-        go p ls (refused fs) (unfit a k u) e low m = absurd (k (sym a ∙ z))
+    label-case z w = case-by (λ p ls x. elim [
+      | fit k ↦ λ e low m. (case-marks w low m, λ t. rw (nd .place ∙ e) at (case-did w low m t))
+      | unfit a k u ↦ λ e low m. absurd (k (sym a ∙ z))
+    ])
 
 -- ---- all labels of a command, and of all commands
 

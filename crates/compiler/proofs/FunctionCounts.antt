@@ -10,9 +10,7 @@ use Rattle.compiler.proofs.Common.{First, first-of, Rest, rest-all, res
 pub program-step : (d : Declaration) (p : Program)
     → encodeProgram (d ∷ p) ≡ (length (encodeDeclared d) ∷ declaredWord d ∷ encodeDeclared d) ++ encodeProgram p
 unfolding encodeProgram
-program-step (T.globals is) p = refl
-program-step (T.manifests is) p = refl
-program-step (T.functions fs) p = refl
+program-step = elim [ T.globals is ↦ λ p. refl | T.manifests is ↦ λ p. refl | T.functions fs ↦ λ p. refl ]
 
 -- the declaration at the front
 abbrev pub IsDeclaration : (s : List ℕ) (at end : ℕ) → Program → Type 0
@@ -38,9 +36,7 @@ ownCount (T.functions fs) = length fs
 
 count-step : (d : Declaration) (p : Program) → functionCount (d ∷ p) ≡ ownCount d + functionCount p
 unfolding functionCount
-count-step (T.globals is) p = omega arith
-count-step (T.manifests is) p = omega arith
-count-step (T.functions fs) p = refl
+count-step = elim [ T.globals is ↦ λ p. omega arith | T.manifests is ↦ λ p. omega arith | T.functions fs ↦ λ p. refl ]
 
 count-none : functionCount [] ≡ 0
 unfolding functionCount

@@ -33,7 +33,4 @@ small-found text (N.declared s x w) n m h e = by-cases (sameName text x n) (λ b
     here (N.function k) h e = contradiction cc
 
     below : (w : N.Meaning) → Small (N.declared s x w) → Small s
-    below (N.global k) h = h .1
-    below (N.local k) h = h
-    below (N.manifest k) h = h
-    below (N.function k) h = h
+    below = elim [ N.global k ↦ λ h. h .1 | N.local k ↦ λ h. h | N.manifest k ↦ λ h. h | N.function k ↦ λ h. h ]

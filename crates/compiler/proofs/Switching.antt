@@ -134,7 +134,7 @@ default-first : (text : List ℕ) (sc : Scope) (l : Label) (ls : List Label)
 unfolding caseItems labelsOf hasDefault
 default-first text sc (T.case p c) ls =
     elim (judge text sc c) as (λ j. hasDefault (goodCase j (labelsOf text sc ls)) ≡ hasDefault
-        (labelsOf text sc ls)) [ good v ↦ refl | refused fs ↦ refl ]
+    (labelsOf text sc ls)) [ good v ↦ refl | refused fs ↦ refl ]
 default-first text sc (T.default p) ls = refl
 
 module _ (s : List ℕ) (end : ℕ) where
@@ -203,15 +203,11 @@ emits-none = record { text = puts-none; high = refl; worst = refl; label = refl 
 emits-as : {xs ys : List I.Item} {t t′ : List ℕ} {st r : State} → Emits xs [] t t′ st r → xs ≡ ys → Emits ys [] t t′ st r
 emits-as e q = rw q at e
 
-pairs-good : (k : ℕ) (j : Judged) (ls : List CaseLabel) → G.pairsOf k (goodCase j []) ++ G.pairsOf k ls ≡ G.pairsOf k (goodCase j ls)
-unfolding G.pairsOf
-pairs-good k (good v) ls = refl
-pairs-good k (refused fs) ls = refl
-
 pairs-then : (text : List ℕ) (sc : Scope) (k : ℕ) (l : Label) (ls : List Label)
     → G.pairsOf k (labelsOf text sc (l ∷ [])) ++ G.pairsOf k (labelsOf text sc ls) ≡ G.pairsOf k (labelsOf text sc (l ∷ ls))
 unfolding labelsOf G.pairsOf
-pairs-then text sc k (T.case p c) ls = pairs-good k (judge text sc c) (labelsOf text sc ls)
+pairs-then text sc k (T.case p c) ls = let xs = labelsOf text sc ls in
+    elim (judge text sc c) as (λ j. G.pairsOf k (goodCase j []) ++ G.pairsOf k xs ≡ G.pairsOf k (goodCase j xs)) [ good v ↦ refl | refused fs ↦ refl ]
 pairs-then text sc k (T.default p) ls = refl
 
 sound-left : {text : List ℕ} {sc : Scope} (ls ms : List Label) → Sound text sc (ls ++ ms) → Sound text sc ls
@@ -310,11 +306,8 @@ found-good c n f = of-found (λ x. faultsOf x ≡ [] → IsGood x) c n f (λ z e
 
 judged-good : (text : List ℕ) (sc : Scope) (c : Constant) → faultsOf (judge text sc c) ≡ [] → IsGood (judge text sc c)
 unfolding judge
-judged-good text sc c = go (c .simple)
-  where
-    go : (x : Simple) → faultsOf (ofSimple text sc c x) ≡ [] → IsGood (ofSimple text sc c x)
-    go (T.literal v) e = record { value = signed (c .minus) v; is = refl }
-    go (T.known n) e = found-good c n (lookup text sc n) e
+judged-good text sc c = elim (c .simple) as (λ x. faultsOf (ofSimple text sc c x) ≡ [] → IsGood (ofSimple text sc c x))
+    [ T.literal v ↦ λ e. record { value = signed (c .minus) v; is = refl } | T.known n ↦ λ e. found-good c n (lookup text sc n) e ]
 
 case-good : (place : ℕ) (x : Judged) (seen : List CaseLabel) → doubledCase place x seen ≡ [] → faultsOf x ≡ []
 case-good place (good v) seen e = refl
