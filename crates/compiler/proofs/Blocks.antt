@@ -13,7 +13,7 @@ use Rattle.code.specs.Generate as G
 use Rattle.compiler.proofs.Vocabulary.{Shows, Keeps, Pushed, State, Here, Ways, Node, FineC, FineCs, FineLs, FinePlain, marked, placed}
 use Rattle.compiler.proofs.Vocabulary.{leavable, leavableBy, NodeAt, Code, Did, Lies, cmdSays, cmdsSays, ReadyC, GaveC, ReadyU, GaveU}
 use Rattle.compiler.proofs.Vocabulary.{ReadyList, GaveList}
-use Rattle.compiler.proofs.Common.{keeps-then, keeps-lower, pushed-keeps, pushed-mark, did-none, did-then, did-as, same-refl, same-eq, code-is}
+use Rattle.compiler.proofs.Common.{and, keeps-then, keeps-lower, pushed-keeps, pushed-mark, did-none, did-then, did-as, same-refl, same-eq, code-is}
 use Rattle.compiler.proofs.Common.{IsTwo, ends, moved, First, first-of, Rest, rest-all, taken-sizes, rest-next, Kind, Part, begins, ready-one}
 use Rattle.compiler.proofs.Common.{rest-length, goes-on, ended, any-expressions}
 use Rattle.compiler.specs.declared.steps.Placed.{Placed}
@@ -116,14 +116,8 @@ count-is text sc h ns es e = omega (arith, count-resolved text sc h es)
 
 -- the code of one and then of the others
 code-with : (text : List ℕ) (sc : Scope) (here : Here) (n : ℕ) (x : Local) (ls : T.Locals) → FineLocal x
-    → let sc′ = scopeWith text sc (here .height) x in let h′ = heightWith text sc (here .height) x in let c = localSays text sc here x n in
-    _≡_ {A = Code}
-    (record {
-      items = c .items ++ G.localsCode (here .strings) h′ (n + c .labels) (locals text sc′ h′ ls);
-      heights = c .heights ++ ofLocals h′ (locals text sc′ h′ ls);
-      labels = c .labels + G.localsLabels (locals text sc′ h′ ls);
-    })
-    (localsSays here (here .height) (locals text sc (here .height) (withLocal x ls)) n)
+    → let h = here .height in let sc′ = scopeWith text sc h x in let h′ = heightWith text sc h x in
+    and (localSays text sc here x) (localsSays here h′ (locals text sc′ h′ ls)) n ≡ localsSays here h (locals text sc h (withLocal x ls)) n
 unfolding locals localSays scopeWith heightWith FineLocal G.localsCode ofLocals G.localsLabels
 code-with text sc here n (aVector m c) ls f =
     let h = here .height in let h′ = h + 2 + judgedWord (forVector text sc c) in let ls′ = locals text (declared sc m (N.local h)) h′ ls in

@@ -11,7 +11,7 @@ use Rattle.code.specs.Generate as G
 use Rattle.compiler.proofs.Vocabulary.{Did, Code, least, AllFit, noFit, Lies, State, Here, encodeFunction, functionDepth, FineF, FineFs}
 use Rattle.compiler.proofs.Vocabulary.{functionSays, functionsSays, innerLabels, ReadyF, GaveF, ReadyFs, GaveFs, Yields}
 use Rattle.compiler.specs.declared.program.Done.{Done}
-use Rattle.compiler.proofs.Common.{keeps-shows, least-then, fit-then, fault-fits, nil-left, nil-right, did-none, did-then, did-as, same-refl}
+use Rattle.compiler.proofs.Common.{and, keeps-shows, least-then, fit-then, fault-fits, nil-left, nil-right, did-none, did-then, did-as, same-refl}
 use Rattle.compiler.proofs.Common.{code-is, keeps-lies, Rest, rest-all, taken-sizes, rest-next}
 use Rattle.compiler.proofs.GroupLaws.{IsFunction, is-function, no-function}
 
@@ -60,13 +60,8 @@ code-then strings l n (f ∷ fs) gs {k} {m} a b = let c = G.bodyCode strings (2 
     ap (λ (z : List I.Item). I.label l ∷ c ++ (G.X 4 ∷ z)) (code-then strings (suc l) n′ fs gs (omega arith) (omega arith)) ∙ ap
     (λ (z : List I.Item). I.label l ∷ z) (sym (append-assoc c (G.X 4 ∷ G.functionsCode strings (suc l) n′ fs) (G.functionsCode strings k m gs)))
 
-pub says-then : (strings l n : ℕ) (gs hs : List Named) {k : ℕ} → k ≡ l + length gs → let a = functionsSays strings l (funs gs) n in
-    _≡_ {A = Code} (record {
-      items = a .items ++ G.functionsCode strings k (n + innerLabels (funs gs)) (funs hs);
-      heights = [];
-      labels = innerLabels (funs gs) + innerLabels (funs hs);
-    })
-    (functionsSays strings l (funs (gs ++ hs)) n)
+pub says-then : (strings l n : ℕ) (gs hs : List Named) {k : ℕ} → k ≡ l + length gs
+    → and (functionsSays strings l (funs gs)) (functionsSays strings k (funs hs)) n ≡ functionsSays strings l (funs (gs ++ hs)) n
 says-then strings l n gs hs {k} e = let f = funs gs in let h = funs hs in
     code-is (sym (ap (G.functionsCode strings l n) (funs-then gs hs) ∙ code-then strings l n f h (omega (arith, funs-long gs)) refl)) refl
     (sym (ap innerLabels (funs-then gs hs) ∙ labels-then f h))
