@@ -11,11 +11,11 @@ use Rattle.language.specs.Resolved as R
 use Rattle.language.specs.Heights as H
 use Rattle.code.specs.Generate as G
 use Rattle.compiler.proofs.Vocabulary.{Shows, Keeps, Pushed, State, Here, Ways, Node, FineC, FineCs, FineLs, FinePlain, marked, placed}
-use Rattle.compiler.proofs.Vocabulary.{leavable, leavableBy, NodeAt, Code, Did, Lies, cmdSays, cmdsSays, ReadyC, GaveC, ReadyU, GaveU}
-use Rattle.compiler.proofs.Vocabulary.{ReadyList, GaveList}
-use Rattle.compiler.proofs.Common.{and, keeps-then, keeps-lower, pushed-keeps, pushed-mark, did-none, did-then, did-as, same-refl, same-eq, code-is}
-use Rattle.compiler.proofs.Common.{IsTwo, ends, moved, First, first-of, Rest, rest-all, taken-sizes, rest-next, Kind, Part, begins, ready-one}
-use Rattle.compiler.proofs.Common.{rest-length, goes-on, ended, any-expressions}
+use Rattle.compiler.proofs.Vocabulary.{leavable, leavableBy, NodeAt, Did, Lies, cmdSays, cmdsSays, ReadyC, GaveC, ReadyU, GaveU, ReadyList}
+use Rattle.compiler.proofs.Vocabulary.{GaveList}
+use Rattle.compiler.proofs.Common.{and, keeps-then, keeps-lower, pushed-keeps, pushed-mark, did-none, did-then, did-as, same-refl, same-eq}
+use Rattle.compiler.proofs.Common.{code-is, IsTwo, ends, moved, First, first-of, Rest, rest-all, taken-sizes, rest-next, Kind, Part, begins}
+use Rattle.compiler.proofs.Common.{ready-one, rest-length, goes-on, ended, any-expressions}
 use Rattle.compiler.specs.declared.steps.Placed.{Placed}
 use Rattle.compiler.specs.Locals.{Local, aVector, someValues, withLocal, encodeLocal, localDepth, FineLocal, scopeWith, heightWith, faultsL}
 use Rattle.compiler.specs.Locals.{localSays, ReadyLocal, GaveLocal, localsSays, ReadyLocals, GaveLocals}
@@ -161,12 +161,11 @@ module _ (text t₀ : List ℕ) {s₀ : List ℕ} {from end : ℕ} {here : Here}
     pub left : Rest encodeLocals (y .ready .base) (here .top) s₀ s end at
     pub scope : Scope
     pub shows : Shows s (r .top) scope
-    pub above : here .top ≤ r .top
-    pub room : r .top * 2 + length (encodeLocals (left .rest)) ≤ here .top * 2 + length (encodeLocals (y .ready .tree))
-    pub tall : r .height + 4100 * length (encodeLocals (left .rest)) ≤ here .height + 4100 * length (encodeLocals (y .ready .tree))
-    pub label : r .done .label + 2 * length (encodeLocals (left .rest)) ≤ st₀ .label + 2 * length (encodeLocals (y .ready .tree))
-    pub some : 0 < r .done .label
-    pub shallow : localsDepth (left .rest) ≤ here .left
+    -- names, labels, levels, and so many of them and heights as what is left may take
+    pub bounds : (here .top ≤ r .top) × (0 < r .done .label) × (localsDepth (left .rest) ≤ here .left)
+        × (r .top * 2 + length (encodeLocals (left .rest)) ≤ here .top * 2 + length (encodeLocals (y .ready .tree)))
+        × (r .height + 4100 * length (encodeLocals (left .rest)) ≤ here .height + 4100 * length (encodeLocals (y .ready .tree)))
+        × (r .done .label + 2 * length (encodeLocals (left .rest)) ≤ st₀ .label + 2 * length (encodeLocals (y .ready .tree)))
     pub fine : FineLs (left .rest)
     pub scopes : scopeAfter text (y .ready .scope) (here .height) (y .ready .tree) ≡ scopeAfter text scope (r .height) (left .rest)
     pub heights : heightAfter text (y .ready .scope) (here .height) (y .ready .tree) ≡ heightAfter text scope (r .height) (left .rest)
@@ -178,12 +177,7 @@ module _ (text t₀ : List ℕ) {s₀ : List ℕ} {from end : ℕ} {here : Here}
     left = rest-all (z .tree) (rw (y .starts) at (z .lies)) (omega arith) (omega arith);
     scope = z .scope;
     shows = z .shows;
-    above = omega arith;
-    room = omega arith;
-    tall = omega arith;
-    label = omega arith;
-    some = z .some;
-    shallow = z .shallow;
+    bounds = omega arith;
     fine = z .fine;
     scopes = refl;
     heights = refl;
@@ -198,7 +192,7 @@ module _ (text t₀ : List ℕ) {s₀ : List ℕ} {from end : ℕ} {here : Here}
       pub locals-sizes : ((size ≡ length (encodeLocal (one .part)))
           × (length (encodeLocals (p .left .rest)) ≡ 2 + length (encodeLocal (one .part)) + length (encodeLocals (one .more))))
           × (localDepth (one .part) ≤ here .left) × (localsDepth (one .more) ≤ here .left)
-      locals-sizes = let d = local-deep (one .part) (one .more) (rw (one .same) at (p .shallow)) in (taken-sizes (p .left) one es, d .0, d .1)
+      locals-sizes = let d = local-deep (one .part) (one .more) (rw (one .same) at (p .bounds .2)) in (taken-sizes (p .left) one es, d .0, d .1)
 
       pub locals-fine : FineLocal (one .part) × FineLs (one .more)
       locals-fine = local-fine (one .part) (one .more) (subst FineLs (one .same) (p .fine))
@@ -215,15 +209,10 @@ module _ (text t₀ : List ℕ) {s₀ : List ℕ} {from end : ℕ} {here : Here}
         let z = y .ready in let u = one y p in let x = g .by (locals-part y p) in let sc = p .scope in let h = r .height in
         let sc′ = scopeWith text sc h (u .part) in let h′ = heightWith text sc h (u .part) in let k = x .after in let now = placed (r .top) h here in
         record {
-          left = rest-next (p .left) u es en (keeps-lower (p .above) (k .keeps));
+          left = rest-next (p .left) u es en (keeps-lower (p .bounds .0) (k .keeps));
           scope = sc′;
           shows = k .shows;
-          above = omega arith;
-          room = omega (arith, locals-sizes y p);
-          tall = omega (arith, locals-sizes y p);
-          label = omega (arith, locals-sizes y p);
-          some = omega arith;
-          shallow = locals-sizes y p .2;
+          bounds = omega (arith, locals-sizes y p);
           fine = locals-fine y p .1;
           scopes = cc (with-local text sc now (u .part) (u .more) .0);
           heights = cc (with-local text sc now (u .part) (u .more) .1);
@@ -242,7 +231,7 @@ module _ (text t₀ : List ℕ) {s₀ : List ℕ} {from end : ℕ} {here : Here}
         shows = rw (p .scopes ∙ ap (scopeAfter text (p .scope) (r .height)) e) (p .shows);
         height = sym (p .heights ∙ ap (heightAfter text (p .scope) (r .height)) e);
         keeps = p .left .keeps;
-        above = p .above;
+        above = p .bounds .0;
         room = omega arith;
         tall = omega arith;
       };

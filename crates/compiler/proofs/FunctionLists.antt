@@ -11,8 +11,8 @@ use Rattle.code.specs.Generate as G
 use Rattle.compiler.proofs.Vocabulary.{Did, Code, least, AllFit, noFit, Lies, State, Here, encodeFunction, functionDepth, FineF, FineFs}
 use Rattle.compiler.proofs.Vocabulary.{functionSays, functionsSays, innerLabels, ReadyF, GaveF, ReadyFs, GaveFs, Yields}
 use Rattle.compiler.specs.declared.program.Done.{Done}
-use Rattle.compiler.proofs.Common.{and, keeps-shows, least-then, fit-then, fault-fits, nil-left, nil-right, did-none, did-then, did-as, same-refl}
-use Rattle.compiler.proofs.Common.{code-is, keeps-lies, Rest, rest-all, taken-sizes, rest-next}
+use Rattle.compiler.proofs.Common.{and, keeps-shows, least-then, fit-then, fault-fits, nil-left, nil-right, did-none, did-then, did-as}
+use Rattle.compiler.proofs.Common.{same-refl, code-is, keeps-lies, Rest, rest-all, taken-sizes, rest-next}
 use Rattle.compiler.proofs.GroupLaws.{IsFunction, is-function, no-function}
 
 -- ---- the least 16
@@ -156,14 +156,11 @@ module _ (text t₀ : List ℕ) {s₀ : List ℕ} {from end : ℕ} {here : Here}
     pub scope : Scope
     pub number : ℕ
     pub used : ℕ
-    pub uses : used + length (encodeFunctions (left .rest)) ≤ length (encodeFunctions (y .functions))
-    pub room : here .top * 2 + length (encodeFunctions (left .rest)) + 2 ≤ y .base * 2 + 4 * length (left .rest)
-    pub some : 0 < d .state .label
+    pub bounds : (l ≡ label + length made) × (0 < d .state .label) × (functionsDepth (left .rest) ≤ here .left) × (length made ≤ used)
+        × (used + length (encodeFunctions (left .rest)) ≤ length (encodeFunctions (y .functions)))
+        × (here .top * 2 + length (encodeFunctions (left .rest)) + 2 ≤ y .base * 2 + 4 * length (left .rest))
     pub low : d .state .high ≡ 0
-    pub shallow : functionsDepth (left .rest) ≤ here .left
     pub fine : FineFs (left .rest)
-    pub next : l ≡ label + length made
-    pub few : length made ≤ used
     pub faults-are : found ++ groupFaults text (y .scope) (left .rest) ≡ groupFaults text (y .scope) (y .functions)
     pub made-are : made ++ groupOf text number scope (y .scope) (left .rest) ≡ groupOf text k before (y .scope) (y .functions)
     pub yields : Yields (here .strings) label found made (2 * used) t₀ t d₀ d
@@ -176,14 +173,9 @@ module _ (text t₀ : List ℕ) {s₀ : List ℕ} {from end : ℕ} {here : Here}
     scope = before;
     number = k;
     used = 0;
-    uses = omega arith;
-    room = y .room;
-    some = y .some;
+    bounds = omega arith;
     low = y .low;
-    shallow = y .shallow;
     fine = y .fine;
-    next = omega arith;
-    few = omega arith;
     faults-are = refl;
     made-are = refl;
     yields = yields-none (here .strings) label;
@@ -222,7 +214,7 @@ module _ (text t₀ : List ℕ) {s₀ : List ℕ} {from end : ℕ} {here : Here}
       room = omega (arith, group-sizes, functions-long (group-one .more));
       height = omega (arith, group-sizes);
       label = omega (arith, group-sizes);
-      some = p .some;
+      some = p .bounds .1;
       strings = y .strings;
       shallow = group-sizes .2;
       fine = group-fine .0;
@@ -247,18 +239,14 @@ module _ (text t₀ : List ℕ) {s₀ : List ℕ} {from end : ℕ} {here : Here}
           scope = withFunction (p .scope) (f .name) (p .number) start;
           number = p .number + 1;
           used = p .used + (2 + length (encodeFunction f));
-          uses = omega (arith, group-sizes);
-          room = omega (arith, group-sizes, functions-step f (u .more), ap (λ (z : List Function). length (encodeFunctions z)) (u .same));
-          some = omega arith;
+          bounds = let a = length-append (p .made) (n ∷ []) in let b = ap (λ (z : List Function). length (encodeFunctions z)) (u .same) in
+              omega (arith, group-sizes, functions-step f (u .more));
           low = rw er;
-          shallow = group-sizes .3;
           fine = group-fine .1;
-          next = omega (arith, length-append (p .made) (n ∷ []));
-          few = omega (arith, length-append (p .made) (n ∷ []));
           faults-are = cc (append-assoc (p .found) (functionFaults text (y .scope) f) (groupFaults text (y .scope) (u .more)));
           made-are = cc (append-assoc (p .made) (n ∷ []) (groupOf text (p .number + 1) (withFunction (p .scope) (f .name) (p .number) start)
               (y .scope) (u .more)));
-          yields = yields-as (2 * (p .used + (2 + length (encodeFunction f)))) refl refl (omega arith) (yields-then l (p .next) (p .yields) one);
+          yields = yields-as (2 * (p .used + (2 + length (encodeFunction f)))) refl refl (omega arith) (yields-then l (p .bounds .0) (p .yields) one);
         }
 
   pub group-end : {s t : List ℕ} {at l : ℕ} {d : Done} → end ≤ at

@@ -88,9 +88,8 @@ module _ (text : List ℕ) {s₀ table₀ : List ℕ} {from end top before : ℕ
     pub bad : List Fault
     pub begun : List Start
     pub shows : Shows s now scope
-    pub up : top ≤ now
-    pub room : now + 2 * length (left .rest) ≤ top + 2 * length (y .functions)
-    pub many : k + length (left .rest) ≡ before + length (y .functions)
+    pub bounds : (top ≤ now) × (now + 2 * length (left .rest) ≤ top + 2 * length (y .functions))
+        × (k + length (left .rest) ≡ before + length (y .functions)) × (k ≡ before + length begun)
     pub fine : FineFs (left .rest)
     pub globals : Small scope
     pub free : Taken table taken
@@ -99,7 +98,6 @@ module _ (text : List ℕ) {s₀ table₀ : List ℕ} {from end top before : ℕ
     pub faults : groupNameFaults text before (y .scope) (y .taken) (y .functions) ≡ bad ++ groupNameFaults text k scope taken (left .rest)
     pub did : (t : List ℕ) → Did bad nothing 0 t t st₀ st
     pub started : startsIn text before (y .scope) (y .functions) ≡ begun ++ startsIn text k scope (left .rest)
-    pub counted : k ≡ before + length begun
     pub starting : bad ≡ [] → (ss : List Start) → length ss ≡ before → Starting table₀ ss → Starting table (ss ++ begun)
 
   pub names-begin : (y : ReadyGroup s₀ table₀ from end top before) → GroupPart y s₀ table₀ from before top st₀
@@ -110,9 +108,7 @@ module _ (text : List ℕ) {s₀ table₀ : List ℕ} {from end top before : ℕ
     bad = [];
     begun = [];
     shows = y .shows;
-    up = omega arith;
-    room = omega arith;
-    many = refl;
+    bounds = omega arith;
     fine = y .fine;
     globals = y .globals;
     free = y .free;
@@ -121,7 +117,6 @@ module _ (text : List ℕ) {s₀ table₀ : List ℕ} {from end top before : ℕ
     faults = refl;
     did = λ t. did-none 0;
     started = refl;
-    counted = omega arith;
     starting = λ q ss e z. rw (append-nil ss) z;
   }
 
@@ -171,15 +166,13 @@ module _ (text : List ℕ) {s₀ table₀ : List ℕ} {from end top before : ℕ
       ≡ N.known (N.global i) → i < 400 = λ i e. small-found text sc name i (p .globals) e in let e = ent .by f (y .base) sc (p .taken) name m-is
       (p .shows) (w .long) (w .room) n (p .free) small in let x = startOf f in let fs = nameFault (name .place) (p .taken) f in
       record {
-        left = rest-next (p .left) u es en (keeps-lower (p .up) (e .1));
+        left = rest-next (p .left) u es en (keeps-lower (p .bounds .0) (e .1));
         scope = withFunction sc name k x;
         taken = alsoTaken x (p .taken);
         bad = p .bad ++ fs;
         begun = p .begun ++ (x ∷ []);
         shows = e .0;
-        up = omega arith;
-        room = omega arith;
-        many = omega arith;
+        bounds = omega (arith, length-append (p .begun) (x ∷ []));
         fine = function-fine l y p .1;
         globals = small-with sc name k x (p .globals);
         free = e .2;
@@ -189,7 +182,6 @@ module _ (text : List ℕ) {s₀ table₀ : List ℕ} {from end top before : ℕ
         did = λ t. did-as nothing 0 (did-then (p .did t) (rw place-is at (nf .by f (p .taken) m-is (p .free) small t))) same-refl (λ i q. refl)
             (omega arith);
         started = simp (p .started, u .same, append-assoc);
-        counted = omega (arith, length-append (p .begun) (x ∷ []));
         starting = λ q ss h z. let long : length (ss ++ p .begun) ≡ k = omega (arith, length-append ss (p .begun)) in
             rw (append-assoc ss (p .begun) (x ∷ [])) at (starting-more (name .place) f (p .free) small (nil-right (p .bad) fs q) (e .5) long
             (p .starting (nil-left (p .bad) fs q) ss h z));
@@ -208,7 +200,7 @@ module _ (text : List ℕ) {s₀ table₀ : List ℕ} {from end top before : ℕ
         record {
           shows = rw (p .scopes ∙ ap (functionsAfter text k (p .scope)) e) (p .shows);
           keeps = p .left .keeps;
-          up = (p .up, omega arith);
+          up = (p .bounds .0, omega arith);
           taken = rw (p .takens ∙ ap (takenAfter text k (p .scope) (p .taken)) e) (p .free);
           did = λ t. rw fs (p .did t);
           starting = λ none xs h z. rw ss (p .starting (sym fs ∙ none) xs h z);

@@ -77,12 +77,10 @@ module _ (text t₀ : List ℕ) {s₀ table₀ : List ℕ} {base end left string
     pub made : List Named
     pub used : ℕ
     pub stands : Stands base s table walk l
-    pub uses : used + length (encodeProgram (left-over .rest)) ≤ length (encodeProgram (y .program))
-    pub room : l .top * 2 + length (encodeProgram (left-over .rest)) ≤ base * 2
-    pub shallow : programDepth (left-over .rest) ≤ left
+    pub bounds : (walk .functions ≡ length made) × (programDepth (left-over .rest) ≤ left) × (length made ≤ used)
+        × (used + length (encodeProgram (left-over .rest)) ≤ length (encodeProgram (y .program)))
+        × (l .top * 2 + length (encodeProgram (left-over .rest)) ≤ base * 2)
     pub fine : FineDs (left-over .rest)
-    pub few : length made ≤ used
-    pub many : walk .functions ≡ length made
     pub faults-are : found ++ faultsFrom text walk (left-over .rest) ≡ faultsFrom text begin (y .program)
     pub made-are : made ++ functionsFrom text walk (left-over .rest) ≡ functionsFrom text begin (y .program)
     pub yields : Yields strings 1 found made (2 * used) t₀ t d₀ (l .done)
@@ -97,12 +95,8 @@ module _ (text t₀ : List ℕ) {s₀ table₀ : List ℕ} {base end left string
     made = [];
     used = 0;
     stands = record { shows = S.nothing refl; globals = none-small; free = none-taken (y .empty); many = refl; some = y .some; low = y .low };
-    uses = omega arith;
-    room = omega arith;
-    shallow = y .shallow;
+    bounds = omega arith;
     fine = y .fine;
-    few = omega arith;
-    many = refl;
     faults-are = refl;
     made-are = refl;
     yields = yields-none strings 1;
@@ -159,12 +153,8 @@ module _ (text t₀ : List ℕ) {s₀ table₀ : List ℕ} {base end left string
           made = p .made ++ gs;
           used = p .used + (2 + length (encodeDeclared (u .part)));
           stands = x .stands;
-          uses = omega (arith, program-sizes);
-          room = omega (arith, program-sizes);
-          shallow = program-sizes .2;
+          bounds = omega (arith, program-sizes, length-append (p .made) gs, made-few text w (u .part), made-many text w (u .part));
           fine = program-fine .1;
-          few = omega (arith, length-append (p .made) gs, made-few text w (u .part));
-          many = omega (arith, length-append (p .made) gs, made-many text w (u .part));
           faults-are = append-assoc (p .found) fs (faultsFrom text w′ (u .more))
               ∙ ap (λ (z : Program). p .found ++ faultsFrom text w z) (sym (u .same)) ∙ p .faults-are;
           made-are = append-assoc (p .made) gs (functionsFrom text w′ (u .more))
@@ -172,7 +162,7 @@ module _ (text t₀ : List ℕ) {s₀ table₀ : List ℕ} {base end left string
           yields = yields-as (2 * (p .used + (2 + length (encodeDeclared (u .part))))) refl refl (omega arith) (yields-then (w .functions + 1)
               (omega arith) (p .yields) (x .yields));
           starting = λ e. subst (Starting table₁) (sym (starts-then (p .made) gs))
-              (x .starting (nil-right (p .found) fs e) (startsOf (funs (p .made))) (starts-long (p .made) ∙ sym (p .many))
+              (x .starting (nil-right (p .found) fs e) (startsOf (funs (p .made))) (starts-long (p .made) ∙ sym (p .bounds .0))
               (p .starting (nil-left (p .found) fs e)));
         }
 

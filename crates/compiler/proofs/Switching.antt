@@ -4,10 +4,10 @@ use Rattle.laws.proofs.Basics.{getD, arith, eqb, eq-eqb, ne-eqb}
 use Rattle.laws.proofs.Cases.{contradiction}
 use Rattle.items.specs.Item as I
 use Rattle.language.specs.Tree as T
-use Rattle.compiler.proofs.Language.{Name, Simple, Constant, Label, Command, Commands, Scope, lookup, fault, Judged, good, refused, judge}
-use Rattle.compiler.proofs.Language.{signed, ofFound, ofSimple, faultsOf, CaseLabel, hasDefault, casesOf, caseCount, labelsBefore, labelsOf}
-use Rattle.compiler.proofs.Language.{goodCase, caseList, greatest, doubledCase, doubledLabel, doubled, FineCommand, FineCommands}
-use Rattle.compiler.proofs.Language.{encodeCommand, encodeCommands}
+use Rattle.compiler.proofs.Language.{Name, Constant, Label, Command, Commands, Scope, lookup, fault, Judged, good, refused, judge, signed}
+use Rattle.compiler.proofs.Language.{ofFound, ofSimple, faultsOf, CaseLabel, hasDefault, casesOf, caseCount, labelsBefore, labelsOf, goodCase}
+use Rattle.compiler.proofs.Language.{caseList, greatest, doubledCase, doubledLabel, doubled, FineCommand, FineCommands, encodeCommand}
+use Rattle.compiler.proofs.Language.{encodeCommands}
 use Rattle.language.specs.Names as N
 use Rattle.code.specs.Generate as G
 use Rattle.writing.specs.Text.{lines}
