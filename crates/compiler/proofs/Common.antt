@@ -2,7 +2,7 @@
 pub use Rattle.compiler.proofs.Scoping.{Held, keeps-all, keeps-lower, keeps-name, keeps-shows, keeps-then, looked-word, means-global}
 pub use Rattle.compiler.proofs.Scoping.{means-manifest, means-unknown, name-there, pushed-keeps, pushed-mark, pushed-name}
 pub use Rattle.compiler.proofs.Done.{Same, and, code-is, did-after, did-as, did-at, did-emit, did-fresh, did-none, did-put, did-then, emits-did}
-pub use Rattle.compiler.proofs.Done.{emits-then, fault-fits, fit-then, least-then, nil-left, nil-right, same-both, same-eq, same-refl}
+pub use Rattle.compiler.proofs.Done.{emits-none, emits-then, fault-fits, fit-then, least-then, nil-left, nil-right, same-both, same-eq, same-refl}
 pub use Rattle.compiler.proofs.Done.{same-swap, same-then}
 pub use Rattle.compiler.proofs.Trees.{IsTwo, ends, find, first, is-valof, keeps-lies, kid, kind-is, place-is, second, size-is, value-is}
 pub use Rattle.compiler.proofs.Parts.{TwoAt, moved, sub, two-at, two-closed}

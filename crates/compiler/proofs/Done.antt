@@ -97,6 +97,10 @@ emits-then {xs} {ys} {hs} {ks} {st = st} f g = record {
   label = g .label ∙ f .label;
 }
 
+pub emits-none : {t : List ℕ} {st : State} → Emits [] [] t t st st
+unfolding lines greatest
+emits-none = record { text = puts-none; high = refl; worst = refl; label = refl }
+
 -- no faults
 pub emits-did : {xs : List I.Item} {hs : List ℕ} {t t′ : List ℕ} {st r : State} (code : ℕ → Code) → Emits xs hs t t′ st r
     → ((n : ℕ) → code n ≡ record { items = xs; heights = hs; labels = 0 }) → Did [] code 0 t t′ st r

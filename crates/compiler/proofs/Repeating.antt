@@ -3,14 +3,12 @@ use Rattle.laws.proofs.Basics.{ℕ, zero, suc, _+_, _-_, _*_, _≤_, _≡_, ref
 use Rattle.laws.proofs.Basics.{arith}
 use Rattle.items.specs.Item as I
 use Rattle.language.specs.Tree as T
-use Rattle.compiler.proofs.Language.{Repeats, Scope, Cmd, expression, repeats, ofExpr, ofCmd, greatest}
+use Rattle.compiler.proofs.Language.{Repeats, Scope, Cmd, expression, repeats, ofExpr, ofCmd}
 use Rattle.language.specs.Resolved as R
 use Rattle.code.specs.Generate as G
 use Rattle.code.specs.Generate.{Exits, cmdCode, cmdLabels, exprCode, exprLabels}
-use Rattle.writing.specs.Text.{lines}
-use Rattle.writing.proofs.Laws.{puts-none}
 use Rattle.compiler.proofs.Vocabulary.{State, Emits}
-use Rattle.compiler.proofs.Common.{emits-then}
+use Rattle.compiler.proofs.Common.{emits-none, emits-then}
 use Rattle.compiler.specs.Repeats.{forms, topsCode, formsCode, formsHeights, formsLabels, innermost}
 
 tops-snoc : (n k : ℕ) → topsCode n (suc k) ≡ topsCode n k ++ (I.label (n + 3 * k) ∷ [])
@@ -20,8 +18,8 @@ tops-snoc n (suc k) = let a : n + 3 + 3 * k ≡ n + 3 * suc k = omega arith in r
 
 -- the loop that writes them
 pub tops-none : (n : ℕ) {t : List ℕ} {st : State} → Emits (topsCode n 0) [] t t st st
-unfolding topsCode lines greatest
-tops-none n = record { text = puts-none; high = refl; worst = refl; label = refl }
+unfolding topsCode
+tops-none n = emits-none
 
 pub tops-next : (n i : ℕ) {t t₁ t₂ : List ℕ} {st a b : State} → Emits (topsCode n i) [] t t₁ st a → Emits (I.label (n + 3 * i) ∷ []) [] t₁ t₂ a b
     → Emits (topsCode n (i + 1)) [] t t₂ st b

@@ -5,13 +5,10 @@ use Rattle.laws.proofs.Cases.{contradiction}
 use Rattle.items.specs.Item as I
 use Rattle.language.specs.Tree as T
 use Rattle.compiler.proofs.Language.{Name, Constant, Label, Command, Commands, Scope, lookup, fault, Judged, good, refused, judge, signed}
-use Rattle.compiler.proofs.Language.{ofFound, ofSimple, faultsOf, CaseLabel, hasDefault, casesOf, caseCount, labelsBefore, labelsOf, goodCase}
-use Rattle.compiler.proofs.Language.{caseList, greatest, doubledCase, doubledLabel, doubled, FineCommand, FineCommands, encodeCommand}
-use Rattle.compiler.proofs.Language.{encodeCommands}
+use Rattle.compiler.proofs.Language.{ofFound, ofSimple, faultsOf, hasDefault, casesOf, caseCount, labelsBefore, labelsOf, goodCase, caseList}
+use Rattle.compiler.proofs.Language.{doubledCase, doubledLabel, doubled, FineCommand, FineCommands, encodeCommand, encodeCommands}
 use Rattle.language.specs.Names as N
 use Rattle.code.specs.Generate as G
-use Rattle.writing.specs.Text.{lines}
-use Rattle.writing.proofs.Laws.{puts-none}
 use Rattle.compiler.proofs.Vocabulary.{State, Node, FineC, FineCs, NodeAt, Emits, Lies, Verdict, labelFaults, ReadyLabels, WritesTable}
 use Rattle.compiler.specs.declared.labels.Span.{Span}
 use Rattle.compiler.specs.Locals.{Says, fit, unfit, Judges}
@@ -19,7 +16,7 @@ use Rattle.compiler.specs.Labels as L
 use Rattle.compiler.specs.Labels.{Row, noMore, andMore, NextItem, LabelAt, CommandAt, Spans, Listed, marks, flat, caseItems, CountsLabel}
 use Rattle.compiler.specs.Labels.{CountsAll, HasDefault, defaultAmong, FindsDefault, Sound, noLabel, anyDefault, tableAmong, Still, WritesPair}
 use Rattle.compiler.specs.Labels.{WritesPairs, WritesAll}
-use Rattle.compiler.proofs.Common.{emits-then, nil-left, nil-right}
+use Rattle.compiler.proofs.Common.{emits-none, emits-then, nil-left, nil-right}
 use Rattle.compiler.proofs.Labelled.{is-labelled, is-bare}
 use Rattle.compiler.proofs.Judging.{of-found}
 use Rattle.compiler.proofs.Rows.{at-case, at-default, Left, left-all, left-next, left-end, an-item, labels-row}
@@ -85,19 +82,15 @@ pub record Holding (A : Type 0) : Type 1 where
   pub none : every [] ≡ []
   pub more : (x : A) (xs : List A) → every (x ∷ xs) ≡ one x ++ every xs
 
-pub flat-none : flat [] ≡ []
+pub flat-laws : (flat [] ≡ []) × ((ls : List Label) (lss : List (List Label)) → flat (ls ∷ lss) ≡ ls ++ flat lss)
 unfolding flat
-flat-none = refl
-
-pub flat-more : (ls : List Label) (lss : List (List Label)) → flat (ls ∷ lss) ≡ ls ++ flat lss
-unfolding flat
-flat-more ls lss = refl
+flat-laws = (refl, λ ls lss. refl)
 
 abbrev pub labels : List ℕ → Holding Label
 labels s = record { At = LabelAt s; one = λ l. l ∷ []; every = λ ls. ls; none = refl; more = λ l ls. refl }
 
 abbrev pub commands : List ℕ → Holding (List Label)
-commands s = record { At = CommandAt s; one = λ ls. ls; every = flat; none = flat-none; more = flat-more }
+commands s = record { At = CommandAt s; one = λ ls. ls; every = flat; none = flat-laws .0; more = flat-laws .1 }
 
 -- the loop over them
 module _ {A : Type 0} (K : Holding A) where
@@ -196,10 +189,6 @@ still-then x y = record { worst = y .worst ∙ x .worst; label = y .label ∙ x 
 pub emits-still : {xs : List I.Item} {hs t t′ : List ℕ} {st r : State} → Emits xs hs t t′ st r → Still st r
 emits-still e = record { worst = e .worst; label = e .label }
 
-emits-none : {t : List ℕ} {st : State} → Emits [] [] t t st st
-unfolding lines greatest
-emits-none = record { text = puts-none; high = refl; worst = refl; label = refl }
-
 emits-as : {xs ys : List I.Item} {t t′ : List ℕ} {st r : State} → Emits xs [] t t′ st r → xs ≡ ys → Emits ys [] t t′ st r
 emits-as e q = rw q at e
 
@@ -210,15 +199,10 @@ pairs-then text sc k (T.case p c) ls = let xs = labelsOf text sc ls in
     elim (judge text sc c) as (λ j. G.pairsOf k (goodCase j []) ++ G.pairsOf k xs ≡ G.pairsOf k (goodCase j xs)) [ good v ↦ refl | refused fs ↦ refl ]
 pairs-then text sc k (T.default p) ls = refl
 
-sound-left : {text : List ℕ} {sc : Scope} (ls ms : List Label) → Sound text sc (ls ++ ms) → Sound text sc ls
-sound-left [] ms s = noLabel
-sound-left (T.case p c ∷ ls) ms (L.goodCase v e s) = L.goodCase v e (sound-left ls ms s)
-sound-left (T.default p ∷ ls) ms (anyDefault s) = anyDefault (sound-left ls ms s)
-
-sound-right : {text : List ℕ} {sc : Scope} (ls ms : List Label) → Sound text sc (ls ++ ms) → Sound text sc ms
-sound-right [] ms s = s
-sound-right (T.case p c ∷ ls) ms (L.goodCase v e s) = sound-right ls ms s
-sound-right (T.default p ∷ ls) ms (anyDefault s) = sound-right ls ms s
+sound-parts : {text : List ℕ} {sc : Scope} (ls ms : List Label) → Sound text sc (ls ++ ms) → Sound text sc ls × Sound text sc ms
+sound-parts [] ms s = (noLabel, s)
+sound-parts (T.case p c ∷ ls) ms (L.goodCase v e s) = let u = sound-parts ls ms s in (L.goodCase v e (u .0), u .1)
+sound-parts (T.default p ∷ ls) ms (anyDefault s) = let u = sound-parts ls ms s in (anyDefault (u .0), u .1)
 
 pub record IsGood (j : Judged) : Type 0 where
   pub value : ℕ
@@ -263,8 +247,8 @@ module _ (text : List ℕ) {s : List ℕ} {from end top : ℕ} (k : ℕ) (t₀ :
   pub pairs-next : {at next : ℕ} {t t₁ : List ℕ} {st r : State} → at < end → NextItem s at end next → WritesPair text s next top k t t₁ st r
       → (y : Listed (LabelAt s) s from end top) → PairsPart y t at st → PairsPart y t₁ next r
   pairs-next {at} {next} {t} {t₁} {st} {r} l n w y p = let sc = y .scope in
-      left-next l n p (λ x xs e q h. let f = w .by sc x (y .shows) q (sound-left (x ∷ []) xs (h .0)) in
-      (sound-right (x ∷ []) xs (h .0), λ t′ st′ d. h .1 t′ st′ (emits-as (emits-then f d) (pairs-then text sc k x xs))))
+      left-next l n p (λ x xs e q h. let so = sound-parts (x ∷ []) xs (h .0) in let f = w .by sc x (y .shows) q (so .0) in
+      (so .1, λ t′ st′ d. h .1 t′ st′ (emits-as (emits-then f d) (pairs-then text sc k x xs))))
 
   pub pairs-end : {at : ℕ} {t : List ℕ} {st : State} → end ≤ at → Still st₀ st
       → ((y : Listed (LabelAt s) s from end top) → Sound text (y .scope) (y .all) → PairsPart y t at st)
@@ -286,8 +270,8 @@ module _ (text : List ℕ) {s : List ℕ} {from end top : ℕ} (first : ℕ) (t�
       → TablePart y t₁ next (k + 1) r
   unfolding flat tableAmong
   table-next {at} {next} {k} {sp} {t} {t₁} {st} {r} l n i w y p = let sc = y .scope in
-      left-next l n p (λ ls lss e q h. let f = w .by (own-labels i y ls q) (sound-left ls (flat lss) (h .0)) in
-      (sound-right ls (flat lss) (h .0), λ t′ st′ d. h .1 t′ st′ (emits-then f d)))
+      left-next l n p (λ ls lss e q h. let so = sound-parts ls (flat lss) (h .0) in let f = w .by (own-labels i y ls q) (so .0) in
+      (so .1, λ t′ st′ d. h .1 t′ st′ (emits-then f d)))
 
   pub table-end : {at : ℕ} (k : ℕ) {t : List ℕ} {st : State} → end ≤ at → Still st₀ st
       → ((y : Listed (CommandAt s) s from end top) → Sound text (y .scope) (flat (y .all)) → TablePart y t at k st)
@@ -309,16 +293,13 @@ unfolding judge
 judged-good text sc c = elim (c .simple) as (λ x. faultsOf (ofSimple text sc c x) ≡ [] → IsGood (ofSimple text sc c x))
     [ T.literal v ↦ λ e. record { value = signed (c .minus) v; is = refl } | T.known n ↦ λ e. found-good c n (lookup text sc n) e ]
 
-case-good : (place : ℕ) (x : Judged) (seen : List CaseLabel) → doubledCase place x seen ≡ [] → faultsOf x ≡ []
-case-good place (good v) seen e = refl
-case-good place (refused fs) seen e = e
-
 sound-doubled : (text : List ℕ) (sc : Scope) (before ls : List Label) → doubled text sc before ls ≡ [] → Sound text sc ls
 unfolding doubled
 sound-doubled text sc before [] e = noLabel
 sound-doubled text sc before (T.case p c ∷ ls) e =
     let a = doubledLabel text sc (labelsOf text sc before) (T.case p c) in let b = doubled text sc (before ++ (T.case p c ∷ [])) ls in
-    let g = judged-good text sc c (case-good p (judge text sc c) (labelsOf text sc before) (nil-left a b e)) in
+    let g = judged-good text sc c (elim (judge text sc c) as (λ x. doubledCase p x (labelsOf text sc before) ≡ [] → faultsOf x ≡ [])
+    [ good v ↦ λ e. refl | refused fs ↦ λ e. e ] (nil-left a b e)) in
     L.goodCase (g .value) (g .is) (sound-doubled text sc (before ++ (T.case p c ∷ [])) ls (nil-right a b e))
 sound-doubled text sc before (T.default p ∷ ls) e = let a = doubledLabel text sc (labelsOf text sc before) (T.default p) in
     anyDefault (sound-doubled text sc (before ++ (T.default p ∷ [])) ls (nil-right a (doubled text sc (before ++ (T.default p ∷ [])) ls) e))
@@ -347,8 +328,8 @@ pub count-is : (text : List ℕ) (sc : Scope) (h : ℕ) (cs : Commands) → Soun
     → caseCount (caseList text sc h cs) ≡ caseItems (flat (marks cs))
 unfolding caseCount caseList caseItems marks flat
 count-is text sc h T.noCommands s = refl
-count-is text sc h (T.andCommand c cs) s = let ls = labelsBefore c in let ms = flat (marks cs) in
-    omega (arith, cases-are text sc ls (sound-left ls ms s), count-is text sc h cs (sound-right ls ms s), cases-then ls ms)
+count-is text sc h (T.andCommand c cs) s = let ls = labelsBefore c in let ms = flat (marks cs) in let so = sound-parts ls ms s in
+    omega (arith, cases-are text sc ls (so .0), count-is text sc h cs (so .1), cases-then ls ms)
 
 pub default-is : (text : List ℕ) (sc : Scope) (h l done : ℕ) (cs : Commands)
     → G.defaultOf l done (caseList text sc h cs) ≡ defaultAmong text sc l done (marks cs)
@@ -365,14 +346,13 @@ table-is text sc h l (T.andCommand c cs) = let a : suc l ≡ l + 1 = omega arith
 pub table-gave : (text : List ℕ) {s : List ℕ} {from end top first done m d : ℕ} {t t₁ t₂ t₃ t₄ : List ℕ} {st a b c r : State}
     → Emits (G.X 23 ∷ []) [] t t₁ st a → CountsAll s from end m → Emits (G.D m ∷ []) [] t₁ t₂ a b → FindsDefault s from end first done d → Emits
     (G.DL d ∷ []) [] t₂ t₃ b c → WritesAll text s from end top first t₃ t₄ c r → WritesTable text s from end top first done t t₄ st r
-table-gave text {s} {from} {end} {top} {first} {done} {m} {d} {t} {t₄ = t₄} {st} {r = r} x n e f g w = record {
-  worst = k .worst;
-  label = k .label;
-  by = λ y h none. let sc = y .scope in let cs = y .commands in let u = list-of y in let so = sound-all text sc [] cs none in let en : m ≡ caseCount
-      (caseList text sc h cs) = n .by (marks cs) (u .row) ∙ sym (count-is text sc h cs so) in let ed : d ≡ G.defaultOf first done
-      (caseList text sc h cs) = f .by (marks cs) (u .row) text sc ∙ sym (default-is text sc h first done cs) in
-      emits-as (emits-then x (emits-then e (emits-then g (w .by u so)))) (rw (en, ed, table-is text sc h first cs));
-}
-  where
-    k : Still st r
-    k = still-then (emits-still x) (still-then (emits-still e) (still-then (emits-still g) (w .still)))
+table-gave text {first = first} {done} {m} {d} {st = st} {r = r} x n e f g w =
+    let k : Still st r = still-then (emits-still x) (still-then (emits-still e) (still-then (emits-still g) (w .still))) in record {
+      worst = k .worst;
+      label = k .label;
+      by = λ y h none. let sc = y .scope in let cs = y .commands in let u = list-of y in let so = sound-all text sc [] cs none in
+          let en : m ≡ caseCount (caseList text sc h cs) = n .by (marks cs) (u .row) ∙ sym (count-is text sc h cs so) in
+          let ed : d ≡ G.defaultOf first done (caseList text sc h cs) = f .by (marks cs) (u .row) text sc ∙ sym
+          (default-is text sc h first done cs) in
+          emits-as (emits-then x (emits-then e (emits-then g (w .by u so)))) (rw (en, ed, table-is text sc h first cs));
+    }
