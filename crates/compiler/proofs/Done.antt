@@ -136,12 +136,6 @@ did-then {fs} {gs} {f} {g} {st = st} x y = record {
       };
 }
 
-pub did-none : (k : ℕ) {t : List ℕ} {st : State} → Did [] (λ n. record { items = []; heights = []; labels = 0 }) k t t st st
-unfolding least greatest lines
-did-none k =
-    record
-    { worst = refl; fits = noFit; few = omega arith; grows = omega arith; clean = λ n. record { text = puts-none; high = refl; label = omega arith } }
-
 -- ---- the same, said otherwise
 
 -- the same faults in another order
@@ -205,6 +199,9 @@ did-as g k {st = st} x s e l = did-at g k x s (e (st .label)) l
 pub code-is : {xs ys : List I.Item} {hs ks : List ℕ} {l m : ℕ} → xs ≡ ys → hs ≡ ks → l ≡ m
     → _≡_ {A = Code} (record { items = xs; heights = hs; labels = l }) (record { items = ys; heights = ks; labels = m })
 code-is a b c = cc
+
+pub did-none : (k : ℕ) {t : List ℕ} {st : State} → Did [] (λ n. record { items = []; heights = []; labels = 0 }) k t t st st
+did-none k = did-as _ k (emits-did _ emits-none (λ n. refl)) same-refl (λ n e. refl) (omega arith)
 
 -- items and heights behind code, items alone behind it, and items and heights before it
 module _ {fs : List Fault} {f : ℕ → Code} {m : ℕ} {t t₁ t₂ : List ℕ} {st a b : State} {xs : List I.Item} where

@@ -30,24 +30,19 @@ pub data AForm : Type 0 where
   onTest : (word : ℕ) → Expression → AForm
 
 abbrev pub withForm : AForm → Repeats → Repeats
-withForm alone rs = T.repeat rs
-withForm (onTest w e) rs = T.repeatOn w e rs
+withForm = elim [ alone ↦ T.repeat | onTest w e ↦ T.repeatOn w e ]
 
 abbrev pub formEncoding : AForm → List ℕ
-formEncoding alone = []
-formEncoding (onTest w e) = encode e
+formEncoding = elim [ alone ↦ [] | onTest w e ↦ encode e ]
 
 abbrev pub formWord : AForm → ℕ
-formWord alone = K.REPEAT
-formWord (onTest w e) = w
+formWord = elim [ alone ↦ K.REPEAT | onTest w e ↦ w ]
 
 abbrev pub formDepth : AForm → ℕ
-formDepth alone = 0
-formDepth (onTest w e) = depth e
+formDepth = elim [ alone ↦ 0 | onTest w e ↦ depth e ]
 
 abbrev pub FineForm : AForm → Type 0
-FineForm alone = Unit {0}
-FineForm (onTest w e) = FineE e
+FineForm = elim [ alone ↦ Unit {0} | onTest w e ↦ FineE e ]
 
 abbrev pub formFaults : List ℕ → Scope → Here → AForm → List Fault
 formFaults text sc x alone = []
@@ -72,13 +67,11 @@ no-form (T.repeatOn w d rs) e = absurd (omega arith)
 
 pub form-deep : (f : AForm) (rs : Repeats) (k : ℕ) → repeatsDepth (withForm f rs) ≤ k → (formDepth f ≤ k) × (repeatsDepth rs ≤ k)
 unfolding repeatsDepth
-form-deep alone rs k l = (omega arith, l)
-form-deep (onTest w e) rs k l = (omega arith, omega arith)
+form-deep = elim [ alone ↦ λ rs k l. (omega arith, l) | onTest w e ↦ λ rs k l. (omega arith, omega arith) ]
 
 pub form-fine : (f : AForm) (rs : Repeats) → FineRs (withForm f rs) → FineForm f × FineRs rs
 unfolding FineRepeats
-form-fine alone rs p = (tt, p)
-form-fine (onTest w e) rs p = p
+form-fine = elim [ alone ↦ λ rs p. (tt, p) | onTest w e ↦ λ rs p. p ]
 
 abbrev pub formList : Kind Repeats AForm
 formList = record {
@@ -99,14 +92,12 @@ formList = record {
 
 form-conditions : (f : AForm) (rs : Repeats) → conditions (withForm f rs) ≡ length (formEncoding f) + conditions rs
 unfolding conditions
-form-conditions alone rs = omega arith
-form-conditions (onTest w e) rs = refl
+form-conditions = elim [ alone ↦ λ rs. omega arith | onTest w e ↦ λ rs. refl ]
 
 form-faults : (text : List ℕ) (sc : Scope) (x : Here) (f : AForm) (rs : Repeats)
     → inRepeats text sc (leavable x) (x .height) (withForm f rs) ≡ formFaults text sc x f ++ inRepeats text sc (leavable x) (x .height) rs
 unfolding inRepeats
-form-faults text sc x alone rs = refl
-form-faults text sc x (onTest w e) rs = refl
+form-faults text sc x = elim [ alone ↦ λ rs. refl | onTest w e ↦ λ rs. refl ]
 
 -- its code between its labels, and then that of the others
 form-code : (text : List ℕ) (x : Here) (sc : Scope) (own n : ℕ) (f : AForm) (rs : Repeats) → let c = oneSays text x sc own f n in
