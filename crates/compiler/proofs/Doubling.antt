@@ -28,34 +28,23 @@ labels-then text sc (T.case p c ∷ ls) ms = let xs = labelsOf text sc ls in let
     (xs ++ ys) ≡ goodCase j xs ++ ys) [ good v ↦ refl | refused fs ↦ refl ])
 labels-then text sc (T.default p ∷ ls) ms = rw (labels-then text sc ls ms)
 
-case-after-case : (v w : ℕ) (ls : List CaseLabel) → hasCase v (ls ++ (R.case w ∷ [])) ≡ cond (eqb v w) true (hasCase v ls)
+or-true : (b : Bool) → cond b true true ≡ true
+or-true = elim [ true ↦ refl | false ↦ refl ]
+
+or-false : (b : Bool) → cond b true false ≡ b
+or-false = elim [ true ↦ refl | false ↦ refl ]
+
+cases-then : (v : ℕ) (ls ms : List CaseLabel) → hasCase v (ls ++ ms) ≡ cond (hasCase v ls) true (hasCase v ms)
 unfolding hasCase
-case-after-case v w [] = refl
-case-after-case v w (R.case u ∷ ls) = rw (case-after-case v w ls, swap (eqb v u) (eqb v w))
-  where
-    swap : (a b : Bool) → cond a true (cond b true (hasCase v ls)) ≡ cond b true (cond a true (hasCase v ls))
-    swap true true = refl
-    swap true false = refl
-    swap false b = refl
-case-after-case v w (R.default ∷ ls) = case-after-case v w ls
+cases-then v [] ms = refl
+cases-then v (R.case u ∷ ls) ms = by-cases (eqb v u) (λ e. rw e) (λ e. rw (e, cases-then v ls ms))
+cases-then v (R.default ∷ ls) ms = cases-then v ls ms
 
-case-after-default : (v : ℕ) (ls : List CaseLabel) → hasCase v (ls ++ (R.default ∷ [])) ≡ hasCase v ls
-unfolding hasCase
-case-after-default v [] = refl
-case-after-default v (R.case u ∷ ls) = rw (case-after-default v ls)
-case-after-default v (R.default ∷ ls) = case-after-default v ls
-
-default-after-case : (w : ℕ) (ls : List CaseLabel) → hasDefault (ls ++ (R.case w ∷ [])) ≡ hasDefault ls
+defaults-then : (ls ms : List CaseLabel) → hasDefault (ls ++ ms) ≡ cond (hasDefault ls) true (hasDefault ms)
 unfolding hasDefault
-default-after-case w [] = refl
-default-after-case w (R.case u ∷ ls) = default-after-case w ls
-default-after-case w (R.default ∷ ls) = refl
-
-default-after-default : (ls : List CaseLabel) → hasDefault (ls ++ (R.default ∷ [])) ≡ true
-unfolding hasDefault
-default-after-default [] = refl
-default-after-default (R.case u ∷ ls) = default-after-default ls
-default-after-default (R.default ∷ ls) = refl
+defaults-then [] ms = refl
+defaults-then (R.case u ∷ ls) ms = defaults-then ls ms
+defaults-then (R.default ∷ ls) ms = refl
 
 -- ---- the marks
 
@@ -75,12 +64,13 @@ module _ {i place : ℕ} {seen seen′ : List ℕ} {st r : State} (n : Notes i p
 module _ {v place : ℕ} {seen seen′ : List ℕ} {st r : State} {ls : List CaseLabel} (n : Notes v place seen seen′ st r) (low : v < 65536)
     (m : Marks seen ls) where
   case-marks : Marks seen′ (ls ++ (R.case v ∷ []))
+  unfolding hasCase hasDefault
   case-marks = record {
     long = n .long ∙ m .long;
     cases = λ w l. by-cases (eqb w v)
-        (λ e. ap (λ (k : ℕ). flag seen′ k) (eqb-true w v e) ∙ n .here (omega arith) ∙ rw (case-after-case w v ls, e))
-        (λ e. n .other w (eqb-false w v e) ∙ m .cases w l ∙ rw (case-after-case w v ls, e));
-    default = n .other 65536 (λ e. omega arith) ∙ m .default ∙ ap (λ (b : Bool). cond b 1 0) (sym (default-after-case v ls));
+        (λ e. ap (λ (k : ℕ). flag seen′ k) (eqb-true w v e) ∙ n .here (omega arith) ∙ rw (cases-then w ls (R.case v ∷ []), e, or-true))
+        (λ e. n .other w (eqb-false w v e) ∙ m .cases w l ∙ rw (cases-then w ls (R.case v ∷ []), e, or-false));
+    default = n .other 65536 (λ e. omega arith) ∙ m .default ∙ rw (defaults-then ls (R.case v ∷ []), or-false);
   }
 
   case-did : (t : List ℕ) → Did (cond (hasCase v ls) (fault place 12) []) nothing 0 t t st r
@@ -88,10 +78,11 @@ module _ {v place : ℕ} {seen seen′ : List ℕ} {st r : State} {ls : List Cas
 
 module _ {place : ℕ} {seen seen′ : List ℕ} {st r : State} {ls : List CaseLabel} (n : Notes 65536 place seen seen′ st r) (m : Marks seen ls) where
   default-marks : Marks seen′ (ls ++ (R.default ∷ []))
+  unfolding hasCase hasDefault
   default-marks = record {
     long = n .long ∙ m .long;
-    cases = λ w l. n .other w (λ e. omega arith) ∙ m .cases w l ∙ ap (λ (b : Bool). cond b 1 0) (sym (case-after-default w ls));
-    default = n .here (omega arith) ∙ ap (λ (b : Bool). cond b 1 0) (sym (default-after-default ls));
+    cases = λ w l. n .other w (λ e. omega arith) ∙ m .cases w l ∙ rw (cases-then w ls (R.default ∷ []), or-false);
+    default = n .here (omega arith) ∙ rw (defaults-then ls (R.default ∷ []), or-true);
   }
 
   default-did : (t : List ℕ) → Did (cond (hasDefault ls) (fault place 12) []) nothing 0 t t st r
