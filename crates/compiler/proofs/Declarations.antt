@@ -71,8 +71,7 @@ module _ (text : List ℕ) {s₀ : List ℕ} {from end top height : ℕ} {st₀ 
       → Again m place st r → PushedName s s₁ (top + 2 * k) at x → x ≡ (height + k) * 4 + 1
       → (y : ReadyNames s₀ from end top height) → NamesPart text st₀ y s at k st → NamesPart text st₀ y s₁ (at + 4) (k + 1) r
   unfolding declareAll twice code FineNames
-  names-next {s} {s₁} {at} k {st} {r} l told ep ag pu ex y p =
-      let u = is-names (p .left .rest) (p .left .lies) (p .left .ends) l in
+  names-next {s} {s₁} {at} k {st} {r} l told ep ag pu ex y p = let u = is-names (p .left .rest) (p .left .lies) (p .left .ends) l in
       let n : nameAt s at ≡ u .name = keeps-name (p .left .keeps) (omega arith) ∙ u .is in
       let c : k + 1 + length (u .more) ≡ length (y .names) = omega (arith, ap length (u .same)) in let rm : top + 2 * k + 2 ≤ y .base = omega arith in
       let lg : y .base ≤ length s = omega arith in let w = N.local (height + k) in let hk : height + (k + 1) ≡ height + k + 1 = omega arith in

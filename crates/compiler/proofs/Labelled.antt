@@ -58,12 +58,10 @@ pub is-bare : {s : List ℕ} {lo end : ℕ} (c : Command) → Lies s lo (encodeC
     → (getD s (end - 1) 0 ≡ O.LABELLED → ⊥) → IsBare s lo end c
 unfolding encodeCommand labelled encodeLabels
 is-bare (T.command [] u rs) h e q = record { part = record { body = u; forms = rs }; same = refl; lies = h; ends = e }
-is-bare (T.command (T.case p c ∷ ls) u rs) h e q = absurd
-    (q (kind-is (encodeLabels (T.case p c ∷ ls) ++ O.repeated (encodeUnlabelled u) (encodeRepeats rs)) (length (encodeLabels (T.case p c ∷ ls))) 0
-    O.LABELLED h e))
-is-bare (T.command (T.default p ∷ ls) u rs) h e q = absurd
-    (q (kind-is (encodeLabels (T.default p ∷ ls) ++ O.repeated (encodeUnlabelled u) (encodeRepeats rs)) (length (encodeLabels (T.default p ∷ ls))) 0
-    O.LABELLED h e))
+is-bare (T.command (T.case p c ∷ ls) u rs) h e q = let w = encodeLabels (T.case p c ∷ ls) in
+    absurd (q (kind-is (w ++ O.repeated (encodeUnlabelled u) (encodeRepeats rs)) (length w) 0 O.LABELLED h e))
+is-bare (T.command (T.default p ∷ ls) u rs) h e q = let w = encodeLabels (T.default p ∷ ls) in
+    absurd (q (kind-is (w ++ O.repeated (encodeUnlabelled u) (encodeRepeats rs)) (length w) 0 O.LABELLED h e))
 
 -- ---- what follows the labels: nothing, which is an empty command, or a command with its REPEAT forms
 

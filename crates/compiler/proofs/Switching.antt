@@ -125,8 +125,7 @@ one-case-not ei ek q = record { few = omega arith; by = at-default _ (λ z. q (r
 default-first : (text : List ℕ) (sc : Scope) (l : Label) (ls : List Label)
     → hasDefault (labelsOf text sc (l ∷ ls)) ≡ cond (eqb (caseItems (l ∷ [])) 0) true (hasDefault (labelsOf text sc ls))
 unfolding caseItems labelsOf hasDefault
-default-first text sc (T.case p c) ls =
-    elim (judge text sc c) as (λ j. hasDefault (goodCase j (labelsOf text sc ls)) ≡ hasDefault
+default-first text sc (T.case p c) ls = elim (judge text sc c) as (λ j. hasDefault (goodCase j (labelsOf text sc ls)) ≡ hasDefault
     (labelsOf text sc ls)) [ good v ↦ refl | refused fs ↦ refl ]
 default-first text sc (T.default p) ls = refl
 
