@@ -147,17 +147,11 @@ module _ {source s : List ℕ} {count : ℕ} (y : ReadySymbols source s count) w
   size : length ss ≡ count * 3
   size = omega (arith, entries-size (y .symbols))
 
-  long : length (padded most ss) ≡ most
-  long = padded-long ss most (omega (arith, size))
-
-  stands : s ≡ padded most ss ++ replicate (length s - most) 0
-  stands = y .stand ∙ padded-on ss most (omega (arith, size)) (length s) tree-room
-
-  lent-is : take most s ≡ padded most ss
-  lent-is = ap (take most) stands ∙ take-at (padded most ss) (replicate (length s - most) 0) most long
-
-  rest-is : drop most s ≡ replicate (length s - most) 0
-  rest-is = ap (drop most) stands ∙ drop-at (padded most ss) (replicate (length s - most) 0) most long
+  -- what is lent, and zeros behind it
+  lent-parts : (take most s ≡ padded most ss) × (drop most s ≡ replicate (length s - most) 0)
+  lent-parts = let zeros = replicate {A = ℕ} (length s - most) 0 in let l = padded-long ss most (omega (arith, size)) in
+      let e = y .stand ∙ padded-on ss most (omega (arith, size)) (length s) tree-room in
+      (ap (take most) e ∙ take-at (padded most ss) zeros most l, ap (drop most) e ∙ drop-at (padded most ss) zeros most l)
 
   fits : tooShort (length (take most s)) count ≡ false
   unfolding tooShort
@@ -167,39 +161,34 @@ module _ {source s : List ℕ} {count : ℕ} (y : ReadySymbols source s count) w
   source-is : sourceIn (take most s) count (length source) ≡ src
   unfolding sourceIn
   source-is = ap (λ (z : List Symbol). record { symbols = z; size = length source }) (ap (λ (n : ℕ). decoded n (take most s)) (y .counts)
-      ∙ (ap (decoded (length (y .symbols))) lent-is ∙ decoded-entries (y .symbols) (replicate (most - length ss) 0)))
+      ∙ (ap (decoded (length (y .symbols))) (lent-parts .0) ∙ decoded-entries (y .symbols) (replicate (most - length ss) 0)))
 
   symbols-first : take (count * 3) (take most s) ≡ ss
-  symbols-first = ap (take (count * 3)) lent-is ∙ take-at ss (replicate (most - length ss) 0) (count * 3) size
+  symbols-first = ap (take (count * 3)) (lent-parts .0) ∙ take-at ss (replicate (most - length ss) 0) (count * 3) size
 
   module _ {front : List ℕ} {a : TreeRead} (r : ReadsTree (take most s) count (length source) a front) where
-    answer-by : a ≡ R.answerOf src count (treeOf src)
-    unfolding treeRead
-    answer-by = r .answers ∙ rw (fits, source-is) refl
-
-    left-by : front ≡ leftBy count (take most s) (treeOf src)
-    unfolding treeLeft
-    left-by = r .leaves ∙ rw (fits, source-is) refl
+    tree-told : (a ≡ R.answerOf src count (treeOf src)) × (front ≡ leftBy count (take most s) (treeOf src))
+    unfolding treeRead treeLeft
+    tree-told = (r .answers ∙ rw (fits, source-is) refl, r .leaves ∙ rw (fits, source-is) refl)
 
     abbrev s′ : List ℕ
     s′ = front ++ drop most s
 
     -- the zeros behind what is lent go on
-    whole : (w : List ℕ) → length w ≤ most → front ≡ padded (length (take most s)) w → s′ ≡ padded (length s) w
-    whole w h e = let f : front ≡ padded most w = rw (e, length-take-le most s tree-room) in rw (rest-is, f, padded-on w most h (length s) tree-room)
-
-    as-long : (w : List ℕ) → length w ≤ most → s′ ≡ padded (length s) w → length s′ ≡ length s
-    as-long w h e = ap length e ∙ padded-long w (length s) (omega (arith, tree-room))
+    whole : (w : List ℕ) → length w ≤ most → front ≡ padded (length (take most s)) w → (s′ ≡ padded (length s) w) × (length s′ ≡ length s)
+    whole w h e = let f : front ≡ padded most w = rw (e, length-take-le most s tree-room) in
+        let g : s′ ≡ padded (length s) w = rw (lent-parts .1, f, padded-on w most h (length s) tree-room) in
+        (g, ap length g ∙ padded-long w (length s) (omega (arith, tree-room)))
 
     pub ready-tree : {end : ℕ} → a ≡ RA.Read end → ReadyTree source s′ count end
-    ready-tree {end} e = go (treeOf src) refl (sym e ∙ answer-by) left-by
+    ready-tree {end} e = go (treeOf src) refl (sym e ∙ tree-told .0) (tree-told .1)
       where
         go : (o : Out Program) → treeOf src ≡ o → RA.Read end ≡ R.answerOf src count o → front ≡ leftBy count (take most s) o
             → ReadyTree source s′ count end
         go (ok p next) q w z =
             let k : end ≡ count * 3 + length (encodeProgram p) = cc in let within : end ≤ count * 8 = subst (Within (count * 8)) e (r .room) in
             let all : List ℕ = ss ++ encodeProgram p in let few : length all ≤ most = omega (arith, length-append ss (encodeProgram p), size) in
-            let stand = whole all few (rw (z, symbols-first)) in let same = as-long all few stand in
+            let u = whole all few (rw (z, symbols-first)) in let stand = u .0 in let same = u .1 in
             record {
               lent = lent-still (y .lent) same;
               symbols = y .symbols;
@@ -218,21 +207,21 @@ module _ {source s : List ℕ} {count : ℕ} (y : ReadySymbols source s count) w
     pub tree-answer : {number place : ℕ} {t t′ z : List ℕ} {w : Refusal} → a ≡ RA.Refused number place → w ≡ refusal source number place
         → z ≡ take 0 (take (count * 3) s′) ++ replicate (length (take (count * 3) s′) - 0) 0
         → Translates source s (z ++ drop (count * 3) s′) t t′ (C.Refused w)
-    tree-answer {number} {place} {t} {t′} {z} {w} e q c = go (treeOf src) refl (sym e ∙ answer-by) left-by
+    tree-answer {number} {place} {t} {t′} {z} {w} e q c = go (treeOf src) refl (sym e ∙ tree-told .0) (tree-told .1)
       where
         go : (o : Out Program) → treeOf src ≡ o → RA.Refused number place ≡ R.answerOf src count o → front ≡ leftBy count (take most s) o
             → Translates source s (z ++ drop (count * 3) s′) t t′ (C.Refused w)
         go (ok p next) k v l = contradiction cc
         go (no m at) k v l =
-            let i : m ≡ number = cc in let j : placeAt src at ≡ place = cc in let few : length ss ≤ most = omega (arith, size) in let stand = whole ss
-            few (l ∙ ap (padded (length (take most s))) symbols-first) in let same = as-long ss few stand in let clean : Clean (count * 3) s′
+            let i : m ≡ number = cc in let j : placeAt src at ≡ place = cc in let few : length ss ≤ most = omega (arith, size) in let u = whole ss
+            few (l ∙ ap (padded (length (take most s))) symbols-first) in let stand = u .0 in let same = u .1 in let clean : Clean (count * 3) s′
             = padded-clean ss (length s) stand (omega (arith, size)) in
             refusing q (tree-refused (y .lent) (length t) (y .symbols) m at (y .reads) k ∙ rw (i, j) refl)
             (rw (clean-all clean (symbols-room same) c, same))
 
     pub never-unfit : a ≡ RA.TooShort → ⊥
     never-unfit e = elim (treeOf src) as (λ o. RA.TooShort ≡ R.answerOf src count o → ⊥)
-        [ ok p next ↦ λ w. contradiction cc | no m at ↦ λ w. contradiction cc ] (sym e ∙ answer-by)
+        [ ok p next ↦ λ w. contradiction cc | no m at ↦ λ w. contradiction cc ] (sym e ∙ tree-told .0)
 
 -- ---- the scratch that is lent on
 
