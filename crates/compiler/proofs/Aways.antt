@@ -47,10 +47,8 @@ module _ {here : Here} {ways : Ways} {word place : ℕ} {t : List ℕ} {st r : S
 
 -- ---- the commands themselves
 
-pub record IsLeave (s : List ℕ) (end w : ℕ) (u : Unlabelled) : Type 0 where
-  pub place : ℕ
-  pub same : u ≡ T.leave w place
-  pub place-of : getD s (end - 2) 0 ≡ place
+abbrev IsLeave : (s : List ℕ) (end w : ℕ) → Unlabelled → Type 0
+IsLeave s end w u = (p : ℕ) × (u ≡ T.leave w p) × (getD s (end - 2) 0 ≡ p)
 
 -- what is nothing else leaves
 is-leave : {s : List ℕ} {lo end k : ℕ} {u : Unlabelled} → Form s lo end k u → (k ≡ K.RESULTIS → ⊥) → (k ≡ K.IF → ⊥) → (k ≡ K.UNLESS → ⊥)
@@ -67,11 +65,11 @@ is-leave (F.aFor p q r) a b c d e f g h i j l = absurd (i refl)
 is-leave (F.aSwitch p) a b c d e f g h i j l = absurd (j refl)
 is-leave (F.aResult p q r) a b c d e f g h i j l = absurd (a refl)
 is-leave (F.aBlock p) a b c d e f g h i j l = absurd (d refl)
-is-leave (F.anEndcase {p} x) a b c d e f g h i j l = record { place = p; same = refl; place-of = x }
-is-leave (F.aBreak {p} x) a b c d e f g h i j l = record { place = p; same = refl; place-of = x }
-is-leave (F.aLoop {p} x) a b c d e f g h i j l = record { place = p; same = refl; place-of = x }
-is-leave (F.aReturn {p} x) a b c d e f g h i j l = record { place = p; same = refl; place-of = x }
-is-leave (F.aFinish {p} x) a b c d e f g h i j l = record { place = p; same = refl; place-of = x }
+is-leave (F.anEndcase {p} x) a b c d e f g h i j l = (p, refl, x)
+is-leave (F.aBreak {p} x) a b c d e f g h i j l = (p, refl, x)
+is-leave (F.aLoop {p} x) a b c d e f g h i j l = (p, refl, x)
+is-leave (F.aReturn {p} x) a b c d e f g h i j l = (p, refl, x)
+is-leave (F.aFinish {p} x) a b c d e f g h i j l = (p, refl, x)
 
 pub away-gave : (text : List ℕ) (ways : Ways) {s t t′ : List ℕ} {end : ℕ} {here : Here} {st r : State} (n : Node) → NodeAt s end n
     → (n .kind ≡ K.RESULTIS → ⊥) → (n .kind ≡ K.IF → ⊥) → (n .kind ≡ K.UNLESS → ⊥) → (n .kind ≡ K.BEGIN → ⊥) → (n .kind ≡ K.ASSIGN → ⊥)
@@ -80,7 +78,7 @@ pub away-gave : (text : List ℕ) (ways : Ways) {s t t′ : List ℕ} {end : ℕ
 unfolding inUnlabelled unlabelled
 away-gave text ways {s} {t} {t′} {end} {here} {st} {r} n nd a b c d e f g h i j l x = record {
   by = λ y. let u = is-leave (form-at n nd refl y) a b c d e f g h i j l in let sc = y .scope in
-      rw (u .same) (record { keeps = keeps-all; did = did-as _ _ (rw (nd .place ∙ u .place-of) at x .did) same-refl (λ k v. refl) (omega arith) });
+      rw (u .1) (record { keeps = keeps-all; did = did-as _ _ (rw (nd .place ∙ u .2) at x .did) same-refl (λ k v. refl) (omega arith) });
 }
 
 -- ---- a call

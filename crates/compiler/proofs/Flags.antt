@@ -65,10 +65,7 @@ module _ (seen : List ℕ) (i : ℕ) {x p : ℕ} (ex : x ≡ getD seen (i / 8) 0
       (rw (ex, j))) (λ q. rw (getD-set-other seen (i / 8) (k / 8) (x + p) 0 (eqb-false (k / 8) (i / 8) q)))
 
 pub flag-taken : (seen : List ℕ) (i : ℕ) → (flag seen i ≡ 0 → ⊥) → flag seen i ≡ 1
-flag-taken seen i n = go (getD seen (i / 8) 0 / 2 ^ (i % 8)) n
-  where
-    go : (y : ℕ) → (y % 2 ≡ 0 → ⊥) → y % 2 ≡ 1
-    go y n = omega arith
+flag-taken seen i n = omega arith
 
 -- ---- the last of eight
 

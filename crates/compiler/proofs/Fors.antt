@@ -68,12 +68,10 @@ is-for {s} {lo} (F.aFor {n} {e} {d} {k} {c} h v q) = let a = encode e in let b =
 -- ---- the constant
 
 by-faults : (text : List ℕ) (sc : Scope) (k : Option Constant) → faultsOf (byJudged text sc k) ≡ byFaults text sc k
-by-faults text sc none = refl
-by-faults text sc (some c) = refl
+by-faults text sc = elim [ none ↦ refl | some c ↦ refl ]
 
 by-word : (text : List ℕ) (sc : Scope) (k : Option Constant) → judgedWord (byJudged text sc k) ≡ byOf text sc k
-by-word text sc none = refl
-by-word text sc (some c) = refl
+by-word text sc = elim [ none ↦ refl | some c ↦ refl ]
 
 -- refusals alone, after what was done
 did-judged : {fs gs : List Fault} {f : ℕ → Code} {m : ℕ} {t t₁ : List ℕ} {st a b : State} → Did fs f m t t₁ st a → Did gs nothing 0 t₁ t₁ a b
