@@ -3,14 +3,13 @@ use Rattle.laws.proofs.Basics.{ℕ, _+_, _-_, _≤_, _≡_, refl, ap, subst, _�
 use Rattle.language.specs.Kinds as K
 use Rattle.language.specs.Tree as T
 use Rattle.compiler.proofs.Language.{Expression, Unlabelled, depth, unlabelledDepth, unlabelled, FineUnlabelled, inUnlabelled, ofCmd, encode}
-use Rattle.compiler.proofs.Language.{encodeUnlabelled}
 use Rattle.tree.specs.Encoding as O
 use Rattle.code.specs.Generate as G
 use Rattle.compiler.proofs.Vocabulary.{State, Here, Ways, Node, FineE, FinePlain, NodeAt, Emits, Faulted, LeavesTo, Lies, ReadyE, GaveE}
 use Rattle.compiler.proofs.Vocabulary.{ReadyU, GaveU, GoesAway}
 use Rattle.compiler.proofs.Common.{keeps-all, emits-did, did-as, same-refl, sub, with-ways}
 use Rattle.compiler.proofs.Forms as F
-use Rattle.compiler.proofs.Forms.{Form, form-at}
+use Rattle.compiler.proofs.Forms.{Form, form-at, same-long}
 
 module _ {here : Here} {ways : Ways} {word place : ℕ} {t : List ℕ} {st r : State} where
   module _ {t′ : List ℕ} where
@@ -110,6 +109,6 @@ module _ {s : List ℕ} {end : ℕ} {here : Here} {st : State} (n : Node) (nd : 
     by = λ y. let u = call-is y in let x = g .by (performed-part y) in rw (u .same) (record {
       keeps = x .keeps;
       did = did-as _ _ (with-ways text (y .scope) here ways (here .height) (u .part) (x .did)) same-refl (λ k v. refl)
-          (omega (arith, ap (λ (v : Unlabelled). length (encodeUnlabelled v)) (u .same)));
+          (omega (arith, same-long (u .same)));
     });
   }

@@ -4,8 +4,8 @@ use Rattle.language.specs.Tree as T
 use Rattle.compiler.proofs.Language.{Name, Expressions, Command, Commands, Unlabelled, commandDepth, commandsDepth, unlabelledDepth}
 use Rattle.compiler.proofs.Language.{localsDepth, Scope, opened, declared, forVector, judgedWord, expressions, commands, unlabelled, locals}
 use Rattle.compiler.proofs.Language.{valuesBefore, declareAll, scopeAfter, heightAfter, ofExprs, ofLocals, ofCmd, ofCmds, Leavable, inCommands}
-use Rattle.compiler.proofs.Language.{inLocals, inUnlabelled, encodeCommand, encodeCommands, encodeUnlabelled, encodeLocals, FineCommands}
-use Rattle.compiler.proofs.Language.{FineLocals, FineUnlabelled}
+use Rattle.compiler.proofs.Language.{inLocals, inUnlabelled, encodeCommand, encodeCommands, encodeLocals, FineCommands, FineLocals}
+use Rattle.compiler.proofs.Language.{FineUnlabelled}
 use Rattle.language.specs.Names as N
 use Rattle.language.specs.Resolved as R
 use Rattle.language.specs.Heights as H
@@ -21,7 +21,7 @@ use Rattle.compiler.specs.Locals.{Local, aVector, someValues, withLocal,
 use Rattle.compiler.specs.Locals.{localSays, ReadyLocal, GaveLocal, localsSays, ReadyLocals, GaveLocals}
 use Rattle.compiler.proofs.Calls.{count-resolved}
 use Rattle.compiler.proofs.Forms as F
-use Rattle.compiler.proofs.Forms.{Form, form-at}
+use Rattle.compiler.proofs.Forms.{Form, form-at, same-long}
 
 -- ---- a list of commands
 
@@ -310,8 +310,7 @@ module _ {s : List ℕ} {end : ℕ} {here : Here} {st : State} (n : Node) (nd : 
               keeps = keeps-then (block-keeps y) (keeps-lower (omega arith) (z .keeps));
               did = did-as (cmdSays here ways (R.block LS (commands text sc′ h′ (u .list)))) _
                   (did-then (x .did) (rw (x .after .height) at (z .did))) (same-eq (rw (any-locals text
-                  (leavable here) l refl sc h ls))) (λ k e. code-is (rw eh) (rw eh) refl)
-                  (omega (arith, ap (λ (v : Unlabelled). length (encodeUnlabelled v)) (u .same)));
+                  (leavable here) l refl sc h ls))) (λ k e. code-is (rw eh) (rw eh) refl) (omega (arith, same-long (u .same)));
             });
       }
 

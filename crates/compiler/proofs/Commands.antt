@@ -3,8 +3,8 @@ use Rattle.laws.proofs.Basics.{ℕ, _+_, _-_, _*_, _<_, _≤_, _≡_, refl, ap,
 use Rattle.items.specs.Item as I
 use Rattle.language.specs.Tree as T
 use Rattle.compiler.proofs.Language.{Expression, Command, Unlabelled, depth, commandDepth, unlabelledDepth, Scope, opened, declared, fault}
-use Rattle.compiler.proofs.Language.{expression, command, unlabelled, ofExpr, ofCmd, unless, inExpression, inUnlabelled, encode}
-use Rattle.compiler.proofs.Language.{encodeUnlabelled, Fine, FineUnlabelled}
+use Rattle.compiler.proofs.Language.{expression, command, unlabelled, ofExpr, ofCmd, unless, inExpression, inUnlabelled, encode, Fine}
+use Rattle.compiler.proofs.Language.{FineUnlabelled}
 use Rattle.language.specs.Names as N
 use Rattle.code.specs.Generate as G
 use Rattle.language.specs.Faults as Y
@@ -14,7 +14,7 @@ use Rattle.compiler.proofs.Vocabulary.{GaveC, ReadyU, GaveU}
 use Rattle.compiler.proofs.Common.{keeps-all, keeps-then, keeps-lower, keeps-name, pushed-keeps, pushed-mark, pushed-name, did-put, did-then}
 use Rattle.compiler.proofs.Common.{did-as, did-at, did-fresh, same-eq, same-swap, same-then, code-is, find, is-valof, ends, sub, with-ways}
 use Rattle.compiler.proofs.Forms as F
-use Rattle.compiler.proofs.Forms.{Form, form-at}
+use Rattle.compiler.proofs.Forms.{Form, form-at, same-long}
 
 -- ---- VALOF
 
@@ -81,7 +81,7 @@ module _ {s : List ℕ} {end : ℕ} {here : Here} {st : State} (n : Node) (nd : 
           did = did-as _ _ (did-then (with-ways text sc here ways h (u .part) (x .did)) (f .did))
               (same-then (same-swap (inExpression text sc (leavableBy ways here) h (u .part)) (unless (leavableBy ways here .valof)
               (fault (n .place) 13))) (same-eq (cc))) (λ m v. code-is refl (append-nil (ofExpr h E)) (omega arith))
-              (omega (arith, ap (λ (v : Unlabelled). length (encodeUnlabelled v)) (u .same)));
+              (omega (arith, same-long (u .same)));
         });
   }
 

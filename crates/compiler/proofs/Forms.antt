@@ -97,8 +97,8 @@ module _ (s : List ℕ) (lo end : ℕ) where
   form-of (T.for n e d k c) f h q =
       let w = encodeName n ++ (encode e ++ (encode d ++ (encodeBy k ++ encodeCommand c))) in let v = length (encodeBy k) in
       so (kind-is w v 0 K.FOR h q) (aFor (kid w v 0 K.FOR h q) (value-is w v 0 K.FOR h q) (ends w v 0 K.FOR h q))
-  form-of (T.switchon e cs) f h q = so (kind-is (encode e ++ encodeCommands cs) (length (encode e)) 0 K.SWITCHON h q) (aSwitch
-      (two-closed encode encodeCommands T.switchon e cs 0 K.SWITCHON h q))
+  form-of (T.switchon e cs) f h q = so (kind-is (encode e ++ encodeCommands cs) (length (encode e)) 0 K.SWITCHON h q)
+      (aSwitch (two-closed encode encodeCommands T.switchon e cs 0 K.SWITCHON h q))
   form-of (T.resultis p e) f h q = so (kind-is (encode e) 0 p K.RESULTIS h q)
       (aResult (place-is (encode e) 0 p K.RESULTIS h q) (kid (encode e) 0 p K.RESULTIS h q) (ends (encode e) 0 p K.RESULTIS h q))
   form-of (T.leave w p) f h q = so (kind-is [] 0 p w h q) (leave-form (f .0) (place-is [] 0 p w h q))
@@ -109,3 +109,7 @@ pub form-at : {s : List ℕ} {end k : ℕ} {here : Here} {st : State} (n : Node)
     → Form s (y .lo) end k (y .tree)
 form-at {s} {end} n nd q y =
     subst (λ (k : ℕ). Form s (y .lo) end k (y .tree)) (sym (nd .kind) ∙ q) (form-of s (y .lo) end (y .tree) (y .fine) (y .lies) (y .ends))
+
+-- the same command has as many entries
+pub same-long : {u v : Unlabelled} → u ≡ v → length (encodeUnlabelled u) ≡ length (encodeUnlabelled v)
+same-long e = rw e

@@ -6,7 +6,7 @@ use Rattle.language.specs.Kinds as K
 use Rattle.language.specs.Tree as T
 use Rattle.compiler.proofs.Language.{Name, Constant, Expression, Command, Unlabelled, depth, commandDepth, unlabelledDepth, Scope, opened}
 use Rattle.compiler.proofs.Language.{declared, Fault, judgedWord, faultsOf, expression, command, unlabelled, byOf, ofCmd, FineName, FineBy}
-use Rattle.compiler.proofs.Language.{FineUnlabelled, byFaults, inUnlabelled, encode, encodeName, encodeBy, encodeCommand, encodeUnlabelled}
+use Rattle.compiler.proofs.Language.{FineUnlabelled, byFaults, inUnlabelled, encode, encodeName, encodeBy, encodeCommand}
 use Rattle.language.specs.Names as N
 use Rattle.language.specs.Resolved as R
 use Rattle.code.specs.Generate as G
@@ -22,7 +22,7 @@ use Rattle.compiler.proofs.Guards.{closed-start, command-closed, expres
 use Rattle.compiler.proofs.Commands.{named-block-keeps, named-block-shows, after-block}
 use Rattle.compiler.proofs.Conditions.{leaves-loop}
 use Rattle.compiler.proofs.Forms as F
-use Rattle.compiler.proofs.Forms.{Form, form-at}
+use Rattle.compiler.proofs.Forms.{Form, form-at, same-long}
 
 pub act-is : {a b : ℕ} {t t′ : List ℕ} {st r : State} → a ≡ b → Emits (G.X a ∷ []) [] t t′ st r → Emits (G.X b ∷ []) [] t t′ st r
 act-is e f = rw e at f
@@ -184,7 +184,7 @@ module _ {s : List ℕ} {end : ℕ} {here : Here} {st : State} (n b l : Node) {l
               let eh : h + 1 + 1 ≡ h + 2 = omega arith in
               let ec : L + 3 + (G.exprLabels E + G.exprLabels D) ≡ L + 3 + G.exprLabels E + G.exprLabels D = omega arith in
               let ll = leaves-loop here ways (L + 1) (L + 2) (omega arith) in let bf = bl .by (byJudged text sc (u .by)) (for-says y) t₄ in
-              let fs = by-faults text sc (u .by) in let k = ap (λ (v : Unlabelled). length (encodeUnlabelled v)) (u .same) in
+              let fs = by-faults text sc (u .by) in let k = same-long (u .same) in
               rw (u .same) (record {
                 keeps = after-block (omega arith) (for-block-keeps y) (w .keeps);
                 did = did-at (cmdSays here ways (R.for E D B C)) _ (did-fresh e

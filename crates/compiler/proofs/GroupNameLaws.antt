@@ -29,8 +29,7 @@ starting-with {table} {table′} {ss} {k} x e z keeps here only = record { is = 
     is : (n l : ℕ) → n < 400 → getD table′ n 0 ≡ suc l → getD (ss ++ (x ∷ [])) l nowhere ≡ inGlobal n
     is n l h q = ⊎-elim (λ w. by-cases (ltb l k) (λ i. List·getD-append ss (x ∷ []) nowhere l (omega (arith, ltb-true l k i)) ∙ z .is n l h w)
         (λ i. let v : nowhere ≡ inGlobal n = sym (List·getD-eq-default ss nowhere (omega (arith, ltb-false l k i))) ∙ z .is n l h w in
-        contradiction cc))
-        (λ w. rw (w .0, end) (w .1)) (only n l q)
+        contradiction cc)) (λ w. rw (w .0, end) (w .1)) (only n l q)
 
     has : (n l : ℕ) → getD (ss ++ (x ∷ [])) l nowhere ≡ inGlobal n → getD table′ n 0 ≡ suc l
     has n l q = by-cases (ltb l k) (λ i. keeps n l (z .has n l (sym (List·getD-append ss (x ∷ []) nowhere l (omega (arith, ltb-true l k i))) ∙ q)))
@@ -63,8 +62,7 @@ starting-more place f {table} {table′} {ns} {ss} {k} tk b q et e z = rw et (go
     go (N.known (N.manifest i)) b q = starting-nowhere e z
     go (N.known (N.function i)) b q = starting-nowhere e z
     go (N.known (N.global n)) b q = starting-global n (omega (arith, b n refl)) (by-cases (among n ns) (λ a. let c = ap length (rw a at q) in
-        absurd (omega arith))
-        (tk .free n (b n refl))) e z
+        absurd (omega arith)) (tk .free n (b n refl))) e z
 
 -- a function's name adds no global
 pub small-with : (sc : Scope) (name : Name) (k : ℕ) (x : Start) → Small sc → Small (withFunction sc name k x)

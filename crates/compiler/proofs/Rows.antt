@@ -32,8 +32,7 @@ module _ (text : List ℕ) {s : List ℕ} {from end top : ℕ} where
   }
 
   -- whatever a constant there is judged, if there is one
-  judges-by : {r : Verdict} → from < end → (r .place < 2 ^ 32) × (r .number < 32)
-      →
+  judges-by : {r : Verdict} → from < end → (r .place < 2 ^ 32) × (r .number < 32) →
       ((sc : Scope) (c : Constant) → Shows s top sc → FineConstant c → Lies s from (encodeConstant c) → end ≡ from + length (encodeConstant c) → Says
       r (byJudged text sc (some c))) → JudgesBy text s from end top r
   unfolding encodeBy
@@ -79,8 +78,7 @@ module _ {A : Type 0} {P : ℕ → A → Type 0} {s : List ℕ} {end : ℕ} wher
 -- ---- labels stand in a row
 
 pub an-item : {s : List ℕ} {at end tag : ℕ} (w rest : List ℕ) → Lies s at (length w ∷ tag ∷ (w ++ rest))
-    → end ≡ at + length (length w ∷ tag ∷ (w ++ rest)) → {T : Type 0}
-    →
+    → end ≡ at + length (length w ∷ tag ∷ (w ++ rest)) → {T : Type 0} →
     (at + 2 + getD s at 0 ≡ at + 2 + length w → Lies s (at + 2) w → Lies s (at + 2 + getD s at 0) rest → end ≡ at + 2 + getD s at 0 + length rest → T)
     → T
 an-item {s} {at} {end} {tag} w rest h e f =

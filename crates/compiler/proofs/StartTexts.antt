@@ -76,11 +76,8 @@ one-start : {table : List ℕ} {k : ℕ} {ss : List Start} (s : Start) → lengt
 one-start {table} {k} s l q e = record {
   is = λ n h g. sym e ∙ q .is n k h g;
   has = λ n g. let z : getD table n 0 ≡ suc k = q .has n k (e ∙ g) in (
-    by-cases (ltb n 400) (ltb-true n 400) (λ h. absurd (omega (
-      arith,
-      List·getD-eq-default table 0 {n = n} (omega
-          (arith, ltb-false n 400 h)),
-    ))),
+    by-cases (ltb n 400) (ltb-true n 400)
+        (λ h. let b = ltb-false n 400 h in absurd (omega (arith, List·getD-eq-default table 0 {n = n} (omega arith)))),
     z,
   );
 }

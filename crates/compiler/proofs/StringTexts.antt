@@ -83,8 +83,7 @@ characters-then [] b = refl
 characters-then (c ∷ a) b = simp (characters-then a b, append-assoc)
 
 pub spelling-next : {source : List ℕ} {from i at x r c w : ℕ} {t t₁ t₂ : List ℕ} → character 34 (drop i source) ≡ is c w
-    → Puts (characterText c) x r t₁ t₂
-    → Spelling source from i at x t t₁ → Spelling source from (i + w) at r t t₂
+    → Puts (characterText c) x r t₁ t₂ → Spelling source from i at x t t₁ → Spelling source from (i + w) at r t t₂
 unfolding charactersText
 spelling-next {source} {i = i} {c = c} {w} e p q = record {
   by = λ cs width z. let k = q .by cs width z in let n = closed-next 34 255 source i (k .left) e in record {
@@ -127,8 +126,7 @@ unfolding symbolCode lines
 symbol-none {source} {kind} n = record { by = λ e. rw (ne-eqb kind STRING n) puts-none }
 
 pub symbol-put : {source : List ℕ} {kind place l at x r : ℕ} {t t₁ t₂ : List ℕ} → kind ≡ STRING → Puts (line (I.label l)) at x t t₁
-    → WritesString source place x r t₁ t₂
-    → WritesSymbol source kind place l at r t t₂
+    → WritesString source place x r t₁ t₂ → WritesSymbol source kind place l at r t t₂
 unfolding symbolCode lines
 symbol-put {source} {kind} q p w =
     record { by = λ e. let z = e q in rw (eq-eqb kind STRING q, z .closes) (puts-as (puts-then p (w .by z)) (simp append-nil)) }
@@ -142,8 +140,7 @@ pub symbols-all : (count : ℕ) (s : List ℕ) → symbolsFrom count s 0 ≡ dec
 unfolding symbolsFrom
 symbols-all count s = let z : count - 0 ≡ count = omega arith in rw z
 
-symbols-more : (count : ℕ) (s : List ℕ) (i : ℕ) → i < count
-    → symbolsFrom count s i ≡
+symbols-more : (count : ℕ) (s : List ℕ) (i : ℕ) → i < count → symbolsFrom count s i ≡
     record { kind = getD s (i * 3) 0; value = getD s (i * 3 + 1) 0; place = getD s (i * 3 + 2) 0 } ∷ symbolsFrom count s (i + 1)
 unfolding symbolsFrom decoded
 symbols-more count s i h = let z : count - i ≡ suc (count - (i + 1)) = omega arith in

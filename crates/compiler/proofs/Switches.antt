@@ -6,7 +6,7 @@ use Rattle.language.specs.Kinds as K
 use Rattle.language.specs.Tree as T
 use Rattle.compiler.proofs.Language.{Label, Commands, Unlabelled, depth, commandsDepth, unlabelledDepth, Scope, Fault, expression, unlabelled}
 use Rattle.compiler.proofs.Language.{labelsBefore, caseList, ofCmd, ofCases, FineUnlabelled, Leavable, doubled, inExpression, inCase, inCases}
-use Rattle.compiler.proofs.Language.{inUnlabelled, encode, encodeCommand, encodeCommands, encodeUnlabelled}
+use Rattle.compiler.proofs.Language.{inUnlabelled, encode, encodeCommand, encodeCommands}
 use Rattle.language.specs.Resolved as R
 use Rattle.code.specs.Generate as G
 use Rattle.language.specs.Faults as Y
@@ -20,7 +20,7 @@ use Rattle.compiler.proofs.Vocabulary.{WritesTable}
 use Rattle.compiler.proofs.Blocks.{commandList}
 use Rattle.compiler.proofs.Counting.{command-items}
 use Rattle.compiler.proofs.Forms as F
-use Rattle.compiler.proofs.Forms.{Form, form-at}
+use Rattle.compiler.proofs.Forms.{Form, form-at, same-long}
 
 -- ---- the loop
 
@@ -177,7 +177,7 @@ module _ {s : List ℕ} {end : ℕ} {here : Here} {st : State} (n : Node) (nd : 
       unfolding inUnlabelled unlabelled G.cmdCode ofCmd G.cmdLabels
       switch-gave ways {s₂} {t₃} {t₄} {o} {r} g₂ f = record {
         by = λ y. let u = switch-is y in let x = g .by (switch-value y) in let z = g₂ .by (switch-cases y) in let sc = y .scope in
-            let h = here .height in let S = here .strings in let lv = leavableBy ways here in let A = a .label in let E = expression text sc h
+            let h = here .height in let lv = leavableBy ways here in let A = a .label in let E = expression text sc h
             (u .left) in let CS = caseList text sc h (u .list) in let v = list-entries text sc h (u .list) in let ek = switch-count y in
             let ls : leavableBy (inSwitch A ways) here ≡ Y.inSwitch lv = leaves-switch here ways A (omega arith) in let en : A + (k + 1) + 0 ≡ A + 1
             + G.commandsIn CS = omega arith in let F = labelFaults text sc [] (u .list) in
@@ -189,11 +189,7 @@ module _ {s : List ℕ} {end : ℕ} {here : Here} {st : State} (n : Node) (nd : 
               keeps = keeps-then (x .keeps) (z .keeps);
               did = did-as (cmdSays here ways (R.switch E CS)) _ (did-then (with-ways text sc here ways h (u .left) (x .did)) rest)
                   (same-both (same-refl {a = inExpression text sc lv h (u .left)}) (same-then (same-eq (rw ls)) (cases-same text sc (Y.inSwitch lv) h
-                  [] (u .list)))) (λ p c. code-is refl refl (omega arith)) (omega (
-                    arith,
-                    ap (λ (v : Unlabelled). length (encodeUnlabelled v))
-                        (u .same),
-                  ));
+                  [] (u .list)))) (λ p c. code-is refl refl (omega arith)) (omega (arith, same-long (u .same)));
             });
       }
 

@@ -139,8 +139,8 @@ module _ (s : List ℕ) (end : ℕ) where
 
   module _ {at next k : ℕ} (l : at < end) (n : NextItem s at end next) (f : CountsLabel s next k) where
     pub among-next : (k ≡ 0 → ⊥) → (ls : List Label) → AmongPart at ls → AmongPart next ls
-    among-next z ls p = left-next l n p (λ x xs e q h text sc. h text sc ∙ default-first text sc x xs ∙ rw (ne-eqb (caseItems (x ∷ [])) 0 (λ w. z
-        (f .by x q ∙ w))))
+    among-next z ls p = left-next l n p (λ x xs e q h text sc. let c = ne-eqb (caseItems (x ∷ [])) 0 (λ w. z (f .by x q ∙ w)) in
+        h text sc ∙ default-first text sc x xs ∙ rw c)
 
     pub among-found : k ≡ 0 → (ls : List Label) → AmongPart at ls → (text : List ℕ) (sc : Scope) → true ≡ hasDefault (labelsOf text sc ls)
     among-found z ls p text sc = left-next {Q′ = λ rest. true ≡ hasDefault (labelsOf text sc ls)} l n p
