@@ -141,12 +141,6 @@ function-place f h = h .at 2 (omega arith)
 
 -- ---- the loop
 
--- what the code needs at a function
-pub record FunctionFits (at size end l label : ℕ) : Type 0 where
-  pub next : at + 2 + size ≤ end
-  pub small : end < 2 ^ 32
-  pub few : l < label + end
-
 module _ (text t₀ : List ℕ) {s₀ : List ℕ} {from end : ℕ} {here : Here} (label : ℕ) (d₀ : Done) where
   -- `rest` is left at `at`; the functions before it are `made`, with their faults
   pub record GroupPart (y : ReadyFs s₀ from end here d₀) (before : Scope) (k : ℕ) (s t : List ℕ) (at l : ℕ) (d : Done) : Type 0 where
@@ -220,8 +214,9 @@ module _ (text t₀ : List ℕ) {s₀ : List ℕ} {from end : ℕ} {here : Here}
       fine = group-fine .0;
     }
 
-    pub group-fits : FunctionFits at size end l label
-    group-fits = record { next = omega (arith, group-sizes, group-one .ends); small = y .small; few = omega arith }
+    -- what the code needs at a function
+    pub group-fits : (at + 2 + size ≤ end) × (end < 2 ^ 32) × (l < label + end)
+    group-fits = (omega (arith, group-sizes, group-one .ends), y .small, omega arith)
 
     pub group-next : {s₁ t₁ : List ℕ} {tall place : ℕ} {a r : State} → GaveF text s s₁ l next here t t₁ (d .state) a → place ≡ getD s₁ (at + 4) 0
         → place < 2 ^ 32 → tall ≡ least (d .tall) (cond (ltb 8192 (a .high)) (fault place 16) []) → r ≡ flat a → GroupPart y before k s₁ t₁ next
