@@ -161,7 +161,7 @@ module _ (text t₀ : List ℕ) {s₀ : List ℕ} {from end : ℕ} {here : Here}
     pub left : Rest encodeLocals (y .ready .base) (here .top) s₀ s end at
     pub scope : Scope
     pub shows : Shows s (r .top) scope
-    -- names, labels, levels, and so many of them and heights as what is left may take
+    -- room for names, heights, labels and levels for what is left
     pub bounds : (here .top ≤ r .top) × (0 < r .done .label) × (localsDepth (left .rest) ≤ here .left)
         × (r .top * 2 + length (encodeLocals (left .rest)) ≤ here .top * 2 + length (encodeLocals (y .ready .tree)))
         × (r .height + 4100 * length (encodeLocals (left .rest)) ≤ here .height + 4100 * length (encodeLocals (y .ready .tree)))

@@ -109,7 +109,3 @@ module _ (h : ℕ) {s s₁ s₂ : List ℕ} {base top leaf m : ℕ} {sc : Scope}
       let x = pushed-name q (omega arith) l (N.local h) (pushed-mark p (omega arith) long sh refl) e tt in let n : nameAt s₁ leaf ≡ nameAt s leaf
       = keeps-name k inside-tree in
       rw a at (rw n at x)
-
--- after a part with more names in scope, the names below are as they were
-pub after-block : {base top high : ℕ} {s s₁ s₂ : List ℕ} → top ≤ high → Keeps base top s s₁ → Keeps base high s₁ s₂ → Keeps base top s s₂
-after-block l a b = keeps-then a (keeps-lower l b)

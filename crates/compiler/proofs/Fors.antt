@@ -13,13 +13,14 @@ use Rattle.code.specs.Generate as G
 use Rattle.compiler.proofs.Vocabulary.{Shows, Keeps, Pushed, PushedName, nameAt, State, Here, Ways, Node, FineE, FineC, FinePlain, raised}
 use Rattle.compiler.proofs.Vocabulary.{placed, inLoop, leavableBy, NodeAt, Code, Did, Emits, Fresh, Lies, ReadyE, GaveE, Verdict, cmdSays}
 use Rattle.compiler.proofs.Vocabulary.{ReadyC, GaveC, ReadyU, GaveU, byJudged, JudgesBy}
-use Rattle.compiler.proofs.Common.{keeps-all, keeps-then, keeps-shows, keeps-name, name-there, pushed-keeps, did-emit, did-put, did-then}
-use Rattle.compiler.proofs.Common.{did-as, did-at, did-fresh, same-refl, same-eq, code-is, first, second, keeps-lies, sub, moved, with-ways}
+use Rattle.compiler.proofs.Common.{keeps-lower, keeps-all, keeps-then, keeps-shows, keeps-name, name-there, pushed-keeps, did-emit, did-put}
+use Rattle.compiler.proofs.Common.{did-then, did-as, did-at, did-fresh, same-refl, same-eq, code-is, first, second, keeps-lies, sub, moved}
+use Rattle.compiler.proofs.Common.{with-ways}
 use Rattle.compiler.specs.Commands.{nothing}
 use Rattle.compiler.proofs.Judging.{says-word}
 use Rattle.compiler.specs.Locals.{Says, Blames}
 use Rattle.compiler.proofs.Guards.{closed-start, command-closed, expression-closed, unlabelled-closed}
-use Rattle.compiler.proofs.Commands.{named-block-keeps, named-block-shows, after-block}
+use Rattle.compiler.proofs.Commands.{named-block-keeps, named-block-shows}
 use Rattle.compiler.proofs.Conditions.{leaves-loop}
 use Rattle.compiler.proofs.Forms as F
 use Rattle.compiler.proofs.Forms.{Form, form-at, same-long}
@@ -186,7 +187,7 @@ module _ {s : List ℕ} {end : ℕ} {here : Here} {st : State} (n b l : Node) {l
               let ll = leaves-loop here ways (L + 1) (L + 2) (omega arith) in let bf = bl .by (byJudged text sc (u .by)) (for-says y) t₄ in
               let fs = by-faults text sc (u .by) in let k = same-long (u .same) in
               rw (u .same) (record {
-                keeps = after-block (omega arith) (for-block-keeps y) (w .keeps);
+                keeps = keeps-then (for-block-keeps y) (keeps-lower (omega arith) (w .keeps));
                 did = did-at (cmdSays here ways (R.for E D B C)) _ (did-fresh e
                     (did-put (did-then (did-put (did-judged (did-emit (did-then (did-emit (with-ways text sc here ways h (u .start) (x .did)) f)
                     (with-ways text sc here ways (h + 1) (u .limit) (z .did))) f₂) bf) f₃) (w .did)) f₄))
