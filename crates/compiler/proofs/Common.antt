@@ -5,7 +5,7 @@ pub use Rattle.compiler.proofs.Done.{Same, and, code-is, did-after, did
 pub use Rattle.compiler.proofs.Done.{emits-none, emits-then, fault-fits, fit-then, least-then, nil-left, nil-right, same-both, same-eq, same-refl}
 pub use Rattle.compiler.proofs.Done.{same-swap, same-then}
 pub use Rattle.compiler.proofs.Trees.{IsTwo, ends, find, first, is-valof, keeps-lies, kid, kind-is, place-is, second, size-is, value-is}
-pub use Rattle.compiler.proofs.Parts.{TwoAt, moved, sub, two-at, two-closed}
+pub use Rattle.compiler.proofs.Parts.{TwoAt, moved, ready-names, sub, two-at, two-closed}
 pub use Rattle.compiler.proofs.Anywhere.{any-expression, any-expressions, with-ways}
 pub use Rattle.compiler.proofs.Lists.{First, Kind, Part, Rest, begins, both-deep, both-fine, ended, first-of, goes-on, item, one-size}
 pub use Rattle.compiler.proofs.Lists.{one-word, ready-one, rest-all, rest-length, rest-next, taken-sizes}

@@ -8,8 +8,8 @@ use Rattle.language.specs.Program.{inside, bodyOf, functionFaults, resolved}
 use Rattle.code.specs.Generate as G
 use Rattle.compiler.proofs.Vocabulary.{Keeps, Pushed, State, Here, Node, NodeAt, Emits, Reached, Lies, ReadyNames, Declares, encodeFunction}
 use Rattle.compiler.proofs.Vocabulary.{ReadyBody, GaveBody, functionSays, ReadyF, GaveF}
-use Rattle.compiler.proofs.Common.{keeps-then, keeps-lower, pushed-keeps, pushed-mark, did-then, did-put, did-after, did-as, same-refl}
-use Rattle.compiler.proofs.Common.{code-is, first, second, keeps-lies, ends, kid, size-is, value-is, kind-is, moved}
+use Rattle.compiler.proofs.Common.{ready-names, keeps-then, keeps-lower, pushed-keeps, pushed-mark, did-then, did-put, did-after, did-as}
+use Rattle.compiler.proofs.Common.{same-refl, code-is, first, second, keeps-lies, ends, kid, size-is, value-is, kind-is, moved}
 use Rattle.compiler.proofs.Judging.{names-long}
 
 -- ---- where its parts stand
@@ -64,20 +64,8 @@ module _ {s : List ℕ} {end : ℕ} {here : Here} {st : State} (n : Node) (nd : 
     abbrev pub function-names : ReadyF s end here st → ReadyNames s₁ (n .start + 4) (n .start + 4 + n .value) (here .top + 2) 2
     function-names y = let u = function-parts y in let r = function-room y in let k = pushed-keeps pu (r .1) (y .long) in
         let z = function-places y in
-        record {
-          base = y .base;
-          scope = opened (y .scope);
-          names = y .tree .parameters;
-          lies = rw (z .0) (keeps-lies k (omega arith) (u .lies-names));
-          ends = omega arith;
-          above = omega arith;
-          long = omega arith;
-          small = omega arith;
-          shows = pushed-mark pu (r .1) (y .long) (y .shows) refl;
-          room = omega arith;
-          heights = omega arith;
-          fine = y .fine .parameters;
-        }
+        ready-names (y .base) (opened (y .scope)) (y .tree .parameters) (rw (z .0) (keeps-lies k (omega arith) (u .lies-names)))
+        (pushed-mark pu (r .1) (y .long) (y .shows) refl) (y .fine .parameters) (omega arith)
 
     module _ (text : List ℕ) {label : ℕ} {s₂ t t₁ : List ℕ} {a b c : State} (em : Emits (I.label label ∷ []) [] t t₁ st a)
         (de : Declares text s₁ s₂ (n .start + 4) (n .start + 4 + n .value) (here .top + 2) 2 a b) (re : Reached (2 + n .value / 4) b c) where

@@ -10,9 +10,9 @@ use Rattle.language.specs.Names as N
 use Rattle.code.specs.Generate as G
 use Rattle.compiler.proofs.Vocabulary.{Shows, Looked, code, found, nameAt, State, Here, Node, FineEs, NodeAt, Emits, Faulted, Lies, ReadyArgs}
 use Rattle.compiler.proofs.Vocabulary.{GaveArgs, Verdict, ReadyNames, Declares}
-use Rattle.compiler.proofs.Common.{keeps-all, keeps-then, keeps-shows, name-there, means-unknown, means-manifest, Held, looked-word, did-none}
-use Rattle.compiler.proofs.Common.{did-then, did-emit, did-as, same-refl, code-is, keeps-lies, kid, ends, value-is, place-is, size-is, kind-is}
-use Rattle.compiler.proofs.Common.{IsTwo, two-closed, sub}
+use Rattle.compiler.proofs.Common.{ready-names, keeps-all, keeps-then, keeps-shows, name-there, means-unknown, means-manifest, Held}
+use Rattle.compiler.proofs.Common.{looked-word, did-none, did-then, did-emit, did-as, same-refl, code-is, keeps-lies, kid, ends, value-is}
+use Rattle.compiler.proofs.Common.{place-is, size-is, kind-is, IsTwo, two-closed, sub}
 use Rattle.compiler.specs.Commands.{nothing}
 use Rattle.compiler.specs.Locals.{Says, fit, unfit, NamedConstant, Judges, JudgesMost, Blames, Local, aVector, someValues, encodeLocal}
 use Rattle.compiler.specs.Locals.{localDepth, FineLocal, scopeWith, heightWith, faultsL, localSays, ReadyLocal, GaveLocal}
@@ -222,20 +222,10 @@ module _ {s : List ℕ} {end : ℕ} {here : Here} {st : State} (n : Node) (nd : 
   vector-fine y = subst FineLocal (vector-is y .same) (y .fine)
 
   abbrev pub vector-names : {e : ℕ} → e ≡ n .start + 4 → ReadyLocal s end here st → ReadyNames s (n .start) e (here .top) (here .height)
-  vector-names ee y = let u = vector-is y in let four = name-long (u .left) in record {
-    base = y .base;
-    scope = y .scope;
-    names = u .left ∷ [];
-    lies = subst (λ (k : ℕ). Lies s k (encodeNames (u .left ∷ []))) (sym (vector-start y)) (one-name (u .left) (u .lies));
-    ends = omega (arith, names-long (u .left ∷ []));
-    above = omega (arith, vector-start y);
-    long = y .long;
-    small = omega (arith, vector-start y);
-    shows = y .shows;
-    room = omega arith;
-    heights = omega arith;
-    fine = one-fine (vector-fine y .1);
-  }
+  vector-names ee y = let u = vector-is y in let four = name-long (u .left) in let a = vector-start y in
+      ready-names (y .base) (y .scope) (u .left ∷ []) (subst (λ (k : ℕ). Lies s k (encodeNames (u .left ∷ []))) (sym a) (one-name (u .left)
+      (u .lies)))
+      (y .shows) (one-fine (vector-fine y .1)) (omega (arith, names-long (u .left ∷ [])))
 
   pub vector-gave : (text : List ℕ) {s₁ t t′ : List ℕ} {e hh : ℕ} {j : Verdict} {a b c : State} (ee : e ≡ n .start + 4)
       → JudgesMost 4095 text s (n .inner) (here .top) j → Blames j st a → Declares text s s₁ (n .start) e (here .top) (here .height) a b
@@ -295,21 +285,11 @@ module _ {s : List ℕ} {end : ℕ} {here : Here} {st : State} (n : Node) (nd : 
 
   module _ (text : List ℕ) {s₁ t t′ : List ℕ} {a : State} (g : GaveArgs text s s₁ middle (n .inner) here t t′ st a) where
     abbrev pub values-names : ReadyLocal s end here st → ReadyNames s₁ (n .start) middle (here .top) (here .height)
-    values-names y = let u = values-is y in let k = g .by (values-args y) .keeps in record {
-      base = y .base;
-      scope = y .scope;
-      names = u .left;
-      lies = keeps-lies k (omega (arith, values-start y .0)) (subst (λ (x : ℕ). Lies s x (encodeNames (u .left))) (sym (values-start y .0))
-          (u .lies));
-      ends = omega (arith, values-start y .0, values-start y .1);
-      above = omega (arith, values-start y .0);
-      long = omega arith;
-      small = omega (arith, values-start y .1);
-      shows = keeps-shows k (omega arith) (y .shows);
-      room = omega (arith, names-long (u .left));
-      heights = omega (arith, names-long (u .left));
-      fine = values-fine y .2;
-    }
+    values-names y = let u = values-is y in let k = g .by (values-args y) .keeps in let a = values-start y in
+        ready-names (y .base) (y .scope) (u .left)
+        (keeps-lies k (omega arith) (subst (λ (x : ℕ). Lies s x (encodeNames (u .left))) (sym (a .0)) (u .lies))) (keeps-shows k (omega arith)
+        (y .shows))
+        (values-fine y .2) (omega (arith, names-long (u .left)))
 
     pub values-gave : {s₂ : List ℕ} {top height : ℕ} {b : State} → Declares text s₁ s₂ (n .start) middle (here .top) (here .height) a b
         → top ≡ here .top + n .value / 2 → height ≡ here .height + n .value / 4

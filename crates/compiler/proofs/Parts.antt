@@ -1,8 +1,8 @@
 -- From a tree that is ready to its parts.
 use Rattle.laws.proofs.Basics.{ℕ, _+_, _-_, _*_, _^_, _<_, _≤_, _≡_, refl, _∙_, List, _++_, length, getD, length-append, arith}
 use Rattle.tree.specs.Encoding.{closed}
-use Rattle.language.specs.Names.{Scope}
-use Rattle.compiler.proofs.Vocabulary.{Shows, Keeps, State, Here, Lies, Ready}
+use Rattle.compiler.proofs.Language.{Name, Scope, encodeNames, FineNames}
+use Rattle.compiler.proofs.Vocabulary.{Shows, Keeps, State, Here, Lies, Ready, ReadyNames}
 use Rattle.compiler.proofs.Scoping.{keeps-shows}
 use Rattle.compiler.proofs.Trees.{first, second, keeps-lies, kid, ends, value-is, size-is, IsTwo, is-two}
 
@@ -72,3 +72,23 @@ module _ {A B : Type 0} {encA : A → List ℕ} {deepA : A → ℕ} {FineA : A �
   abbrev pub sub : Lies s lo′ (encB part) → here′ .top ≡ here .top → Fits encB deepB (y .lo) end here lo′ end′ here′ st′ part → FineB part
       → Ready encB deepB FineB s′ end′ here′ st′
   sub h top f fine = moved (y .scope) h (keeps-shows k (omega arith) (rw top (y .shows))) (omega arith) f fine
+
+-- names that stand there, with room for them
+abbrev pub ready-names : {s : List ℕ} {from end top height : ℕ} (base : ℕ) (sc : Scope) (ns : List Name) → Lies s from (encodeNames ns)
+    → Shows s top sc
+    → FineNames ns → (end ≡ from + length (encodeNames ns)) × (base ≤ from) × (base ≤ length s) × (end < 2 ^ 32) × (top + 2 * length ns ≤ base)
+    × (height + length ns ≤ 2 ^ 29) → ReadyNames s from end top height
+ready-names base sc ns h sh f b = record {
+  base = base;
+  scope = sc;
+  names = ns;
+  lies = h;
+  ends = b .0;
+  above = b .1;
+  long = b .2;
+  small = b .3;
+  shows = sh;
+  room = b .4;
+  heights = b .5;
+  fine = f;
+}
