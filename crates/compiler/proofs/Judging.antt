@@ -223,9 +223,8 @@ module _ {s : List ℕ} {end : ℕ} {here : Here} {st : State} (n : Node) (nd : 
 
   abbrev pub vector-names : {e : ℕ} → e ≡ n .start + 4 → ReadyLocal s end here st → ReadyNames s (n .start) e (here .top) (here .height)
   vector-names ee y = let u = vector-is y in let four = name-long (u .left) in let a = vector-start y in
-      ready-names (y .base) (y .scope) (u .left ∷ []) (subst (λ (k : ℕ). Lies s k (encodeNames (u .left ∷ []))) (sym a) (one-name (u .left)
-      (u .lies)))
-      (y .shows) (one-fine (vector-fine y .1)) (omega (arith, names-long (u .left ∷ [])))
+      ready-names (y .base) (y .scope) (u .left ∷ []) (subst (λ (k : ℕ). Lies s k (encodeNames (u .left ∷ []))) (sym a)
+      (one-name (u .left) (u .lies))) (y .shows) (one-fine (vector-fine y .1)) (omega (arith, names-long (u .left ∷ [])))
 
   pub vector-gave : (text : List ℕ) {s₁ t t′ : List ℕ} {e hh : ℕ} {j : Verdict} {a b c : State} (ee : e ≡ n .start + 4)
       → JudgesMost 4095 text s (n .inner) (here .top) j → Blames j st a → Declares text s s₁ (n .start) e (here .top) (here .height) a b
@@ -287,9 +286,8 @@ module _ {s : List ℕ} {end : ℕ} {here : Here} {st : State} (n : Node) (nd : 
     abbrev pub values-names : ReadyLocal s end here st → ReadyNames s₁ (n .start) middle (here .top) (here .height)
     values-names y = let u = values-is y in let k = g .by (values-args y) .keeps in let a = values-start y in
         ready-names (y .base) (y .scope) (u .left)
-        (keeps-lies k (omega arith) (subst (λ (x : ℕ). Lies s x (encodeNames (u .left))) (sym (a .0)) (u .lies))) (keeps-shows k (omega arith)
-        (y .shows))
-        (values-fine y .2) (omega (arith, names-long (u .left)))
+        (keeps-lies k (omega arith) (subst (λ (x : ℕ). Lies s x (encodeNames (u .left))) (sym (a .0)) (u .lies)))
+        (keeps-shows k (omega arith) (y .shows)) (values-fine y .2) (omega (arith, names-long (u .left)))
 
     pub values-gave : {s₂ : List ℕ} {top height : ℕ} {b : State} → Declares text s₁ s₂ (n .start) middle (here .top) (here .height) a b
         → top ≡ here .top + n .value / 2 → height ≡ here .height + n .value / 4

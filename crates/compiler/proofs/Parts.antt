@@ -75,9 +75,8 @@ module _ {A B : Type 0} {encA : A → List ℕ} {deepA : A → ℕ} {FineA : A �
 
 -- names that stand there, with room for them
 abbrev pub ready-names : {s : List ℕ} {from end top height : ℕ} (base : ℕ) (sc : Scope) (ns : List Name) → Lies s from (encodeNames ns)
-    → Shows s top sc
-    → FineNames ns → (end ≡ from + length (encodeNames ns)) × (base ≤ from) × (base ≤ length s) × (end < 2 ^ 32) × (top + 2 * length ns ≤ base)
-    × (height + length ns ≤ 2 ^ 29) → ReadyNames s from end top height
+    → Shows s top sc → FineNames ns → (end ≡ from + length (encodeNames ns)) × (base ≤ from) × (base ≤ length s) × (end < 2 ^ 32)
+    × (top + 2 * length ns ≤ base) × (height + length ns ≤ 2 ^ 29) → ReadyNames s from end top height
 ready-names base sc ns h sh f b = record {
   base = base;
   scope = sc;
