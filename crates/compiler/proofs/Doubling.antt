@@ -4,18 +4,18 @@ use Rattle.laws.proofs.Basics.{true, false, cond, length, getD, set, replicate,
 use Rattle.laws.proofs.Cases.{by-cases}
 use Rattle.language.specs.Tree as T
 use Rattle.compiler.proofs.Language.{Label, Commands, Scope, fault, Judged, good, refused, judge, judgedWord, CaseLabel, hasCase, hasDefault}
-use Rattle.compiler.proofs.Language.{labelsBefore, labelsOf, goodCase, doubledCase, doubledLabel, doubled}
+use Rattle.compiler.proofs.Language.{labelsBefore, labelsOf, goodCase, doubledCase, doubled}
 use Rattle.language.specs.Resolved as R
 use Rattle.compiler.proofs.Vocabulary.{State, Node, NodeAt, Did, Faulted, Verdict, labelFaults, ReadyLabels, JudgesLabels}
 use Rattle.compiler.specs.declared.labels.Span.{Span}
 use Rattle.compiler.specs.Commands.{nothing}
 use Rattle.compiler.specs.Locals.{Says, fit, unfit, Judges, Blames}
-use Rattle.compiler.specs.Labels.{NextItem, LabelAt, CommandAt, Spans, Listed, marks, flag, Marks, Notes, Marked, JudgesLabel, JudgesCommand}
-use Rattle.compiler.specs.Labels.{faultsAmong}
+use Rattle.compiler.specs.Labels.{aCase, aDefault, NextItem, LabelAt, CommandAt, Spans, Listed, marks, flag, Marks, Notes, Marked, JudgesLabel}
+use Rattle.compiler.specs.Labels.{JudgesCommand, faultsAmong}
 use Rattle.compiler.proofs.Common.{did-none, did-then, did-as, same-refl}
 use Rattle.compiler.proofs.Flags.{flag-none, flag-free, flag-here, flag-other, flag-taken, flag-beyond}
 use Rattle.compiler.proofs.Judging.{judged-word}
-use Rattle.compiler.proofs.Rows.{at-case, at-default, Left, left-all, left-next, left-end}
+use Rattle.compiler.proofs.Rows.{Left, left-all, left-next, left-end}
 use Rattle.compiler.proofs.Switching.{list-of, own-labels}
 
 -- ---- one label more
@@ -117,13 +117,12 @@ note-none {i} {seen = seen} l = record {
 module _ (text : List ℕ) {s : List ℕ} {end : ℕ} (top : ℕ) (st r : State) (n : Node) (nd : NodeAt s end n) where
   pub label-default : {seen seen′ : List ℕ} → (n .kind ≡ 28 → ⊥) → Notes 65536 (n .place) seen seen′ st r → JudgesLabel text s end top seen seen′ st r
   unfolding labelsOf
-  label-default {seen′ = seen′} q w = record {
-    by = λ sc before l sh k m. at-default
-        (λ x. Marked text sc (before ++ (x ∷ [])) (doubledLabel text sc (labelsOf text sc before) x) seen′ st r) (λ z. q (nd .kind ∙ z))
-        (λ p e. record {
-          marks = rw (labels-then text sc before (T.default p ∷ [])) (default-marks w m);
-          did = λ t. let z : n .place ≡ p = nd .place ∙ e in rw z at (default-did w m t);
-        }) l k;
+  label-default q w = record {
+    by = λ sc before l sh. elim [
+      | aCase a e h en f ↦ λ m. absurd (q (nd .kind ∙ a))
+      | aDefault {place = p} a e ↦ λ m. let z : n .place ≡ p = nd .place ∙ e in
+          record { marks = rw (labels-then text sc before (T.default p ∷ [])) (default-marks w m); did = λ t. rw z at (default-did w m t) }
+    ];
   }
 
   -- a CASE, by what its constant is judged
@@ -134,12 +133,13 @@ module _ (text : List ℕ) {s : List ℕ} {end : ℕ} (top : ℕ) (st r : State)
 
     case-by : {seen seen′ : List ℕ} → By seen seen′ → JudgesLabel text s end top seen seen′ st r
     unfolding labelsOf
-    case-by {seen′ = seen′} f = record {
-      by = λ sc before l sh k m. at-case
-          (λ x. Marked text sc (before ++ (x ∷ [])) (doubledLabel text sc (labelsOf text sc before) x) seen′ st r) (sym (nd .kind) ∙ q)
-          (λ p lo c e i en fine. let d = f p (labelsOf text sc before) (judge text sc c) (g .by sc lo c sh fine i (nd .inner ∙ en)) e
-          (judged-word text sc c sh fine) m in
-          record { marks = rw (labels-then text sc before (T.case p c ∷ [])) (d .0); did = d .1 }) l k;
+    case-by f = record {
+      by = λ sc before l sh. elim [
+        | aCase {place = p} {lo} {c} a e i en fine ↦ λ m. let says = g .by sc lo c sh fine i (nd .inner ∙ en) in
+            let d = f p (labelsOf text sc before) (judge text sc c) says e (judged-word text sc c sh fine) m in
+            record { marks = rw (labels-then text sc before (T.case p c ∷ [])) (d .0); did = d .1 }
+        | aDefault a e ↦ λ m. absurd (omega arith)
+      ];
     }
 
     pub label-refused : {seen : List ℕ} → (j .number ≡ 0 → ⊥) → Blames j st r → JudgesLabel text s end top seen seen st r

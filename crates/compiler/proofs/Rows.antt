@@ -103,17 +103,6 @@ labels-row {s} {at} (T.case p c ∷ ls) f h e = an-item (closed (encodeConstant 
 labels-row {s} {at} (T.default p ∷ ls) f h e = an-item (closed [] 0 p 29) (encodeLabels ls) h e (λ z lies more en. andMore {at = at} (omega arith)
     (default-at p lies z) (labels-row ls f more en))
 
--- a label that is CASE, and one that is not
-module _ {s : List ℕ} {end : ℕ} (P : Label → Type 0) where
-  pub at-case : getD s (end - 1) 0 ≡ 28 → ((p lo : ℕ) (c : Constant) → getD s (end - 2) 0 ≡ p → Lies s lo (encodeConstant c)
-      → end - 4 ≡ lo + length (encodeConstant c) → FineConstant c → P (T.case p c)) → (l : Label) → LabelAt s end l → P l
-  at-case q f (T.case p c) (aCase {lo = lo} k e h en fine) = f p lo c e h en fine
-  at-case q f (T.default p) (aDefault k e) = absurd (omega arith)
-
-  pub at-default : (getD s (end - 1) 0 ≡ 28 → ⊥) → ((p : ℕ) → getD s (end - 2) 0 ≡ p → P (T.default p)) → (l : Label) → LabelAt s end l → P l
-  at-default q f (T.case p c) (aCase k e h en fine) = absurd (q k)
-  at-default q f (T.default p) (aDefault k e) = f p e
-
 -- ---- a label before no command of a list
 
 pub twelve : {s : List ℕ} {end : ℕ} {st a : State} {n : Node} → NodeAt s end n → Faulted (n .place) 12 st a → {place : ℕ} → getD s (end - 2) 0 ≡ place
@@ -124,15 +113,19 @@ module _ (text : List ℕ) {s : List ℕ} {end top : ℕ} {st : State} (n : Node
   pub misplaced-default : (n .kind ≡ 28 → ⊥) → MisplacesLabel text s end top st a
   unfolding misplaced
   misplaced-default q = record {
-    by = λ sc l sh k t. at-default (λ x. Did (misplaced text sc (x ∷ [])) nothing 0 t t st a) (λ z. q (nd .kind ∙ z)) (λ p e. twelve nd w e t) l k;
+    by = λ sc l sh. elim [ aCase k e h en f ↦ λ t. absurd (q (nd .kind ∙ k)) | aDefault k e ↦ λ t. twelve nd w e t ];
   }
 
   pub misplaced-case : {j : Verdict} {r : State} → n .kind ≡ 28 → Judges text s (n .inner) top j → Blames j a r → MisplacesLabel text s end top st r
   unfolding misplaced
-  misplaced-case {r = r} q g b = record {
-    by = λ sc l sh k t. at-case (λ x. Did (misplaced text sc (x ∷ [])) nothing 0 t t st r) (sym (nd .kind) ∙ q)
-        (λ p lo c e h en f. did-as nothing 0 (did-then (twelve nd w e t) (b .by (judge text sc c) (g .by sc lo c sh f h (nd .inner ∙ en)) t))
-        (same-eq (sym (append-nil _))) (λ v z. refl) (omega arith)) l k;
+  misplaced-case q g b = record {
+    by = λ sc l sh. elim [
+      | aCase {lo = lo} {c = c} k e h en f ↦ λ t. did-as nothing 0
+          (did-then (twelve nd w e t) (b .by (judge text sc c) (g .by sc lo c sh f h (nd .inner ∙ en)) t)) (same-eq (sym (append-nil _)))
+          (λ v z. refl)
+          (omega arith)
+      | aDefault k e ↦ λ t. absurd (omega arith)
+    ];
   }
 
 misplaced-then : (text : List ℕ) (sc : Scope) (l : Label) (ls : List Label)

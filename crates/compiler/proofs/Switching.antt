@@ -13,13 +13,13 @@ use Rattle.compiler.proofs.Vocabulary.{State, Node, FineC, FineCs, Node
 use Rattle.compiler.specs.declared.labels.Span.{Span}
 use Rattle.compiler.specs.Locals.{Says, fit, unfit, Judges}
 use Rattle.compiler.specs.Labels as L
-use Rattle.compiler.specs.Labels.{Row, noMore, andMore, NextItem, LabelAt, CommandAt, Spans, Listed, marks, flat, caseItems, CountsLabel}
-use Rattle.compiler.specs.Labels.{CountsAll, HasDefault, defaultAmong, FindsDefault, Sound, noLabel, anyDefault, tableAmong, Still, WritesPair}
-use Rattle.compiler.specs.Labels.{WritesPairs, WritesAll}
+use Rattle.compiler.specs.Labels.{aCase, aDefault, Row, noMore, andMore, NextItem, LabelAt, CommandAt, Spans, Listed, marks, flat, caseItems}
+use Rattle.compiler.specs.Labels.{CountsLabel, CountsAll, HasDefault, defaultAmong, FindsDefault, Sound, noLabel, anyDefault, tableAmong, Still}
+use Rattle.compiler.specs.Labels.{WritesPair, WritesPairs, WritesAll}
 use Rattle.compiler.proofs.Common.{emits-none, emits-then, nil-left, nil-right}
 use Rattle.compiler.proofs.Labelled.{is-labelled, is-bare}
 use Rattle.compiler.proofs.Judging.{of-found}
-use Rattle.compiler.proofs.Rows.{at-case, at-default, Left, left-all, left-next, left-end, an-item, labels-row}
+use Rattle.compiler.proofs.Rows.{Left, left-all, left-next, left-end, an-item, labels-row}
 
 -- ---- the labels of a command
 
@@ -114,11 +114,12 @@ module _ {A : Type 0} (K : Holding A) where
 
 pub one-case-is : {s : List ℕ} {end i k : ℕ} → i ≡ end - 1 → k ≡ getD s i 0 → k ≡ 28 → CountsLabel s end 1
 unfolding caseItems
-one-case-is ei ek q = record { few = omega arith; by = at-case _ (cc) (λ p lo c e h en f. refl) }
+one-case-is {s} {end} ei ek q = let z : getD s (end - 1) 0 ≡ 28 = cc in
+    record { few = omega arith; by = λ l. elim [ aCase a e h en f ↦ refl | aDefault a e ↦ absurd (omega arith) ] }
 
 pub one-case-not : {s : List ℕ} {end i k : ℕ} → i ≡ end - 1 → k ≡ getD s i 0 → (k ≡ 28 → ⊥) → CountsLabel s end 0
 unfolding caseItems
-one-case-not ei ek q = record { few = omega arith; by = at-default _ (λ z. q (rw (ek, ei, z))) (λ p e. refl) }
+one-case-not ei ek q = record { few = omega arith; by = λ l. elim [ aCase a e h en f ↦ absurd (q (rw (ek, ei, a))) | aDefault a e ↦ refl ] }
 
 -- ---- DEFAULT among labels, and its command
 
@@ -217,21 +218,21 @@ says-is (unfit a b w) e = contradiction cc
 module _ (text : List ℕ) {s : List ℕ} {end top : ℕ} (n : Node) (nd : NodeAt s end n) where
   pub pair-not : {k : ℕ} {t : List ℕ} {st : State} → (n .kind ≡ 28 → ⊥) → WritesPair text s end top k t t st st
   unfolding labelsOf G.pairsOf
-  pair-not {k} {t} {st} q = record {
+  pair-not q = record {
     still = still-here;
-    by = λ sc l sh a so. at-default (λ x. Emits (G.pairsOf k (labelsOf text sc (x ∷ []))) [] t t st st) (λ z. q (nd .kind ∙ z))
-        (λ p e. emits-none) l a;
+    by = λ sc l sh. elim [ aCase a e h en f ↦ λ so. absurd (q (nd .kind ∙ a)) | aDefault a e ↦ λ so. emits-none ];
   }
 
   pub pair-is : {k : ℕ} {t t₁ t₂ : List ℕ} {st a r : State} {j : Verdict} → n .kind ≡ 28 → Judges text s (n .inner) top j
       → Emits (G.D (j .word) ∷ []) [] t t₁ st a → Emits (G.DL k ∷ []) [] t₁ t₂ a r → WritesPair text s end top k t t₂ st r
   unfolding labelsOf G.pairsOf
-  pair-is {k} {t} {t₂ = t₂} {st} {r = r} q g d e = record {
+  pair-is q g d e = record {
     still = still-then (emits-still d) (emits-still e);
-    by = λ sc l sh a so. at-case (λ x. Sound text sc (x ∷ []) → Emits (G.pairsOf k (labelsOf text sc (x ∷ []))) [] t t₂ st r) (sym (nd .kind) ∙ q)
-        (λ p lo c z h en f so. let w = first-good so in emits-as (emits-then d e) (sym (rw (says-is (g .by sc lo c sh f h (nd .inner ∙ en))
-        (w .is)))))
-        l a so;
+    by = λ sc l sh. elim [
+      | aCase {lo = lo} {c = c} a z h en f ↦ λ so. let w = first-good so in
+          emits-as (emits-then d e) (sym (rw (says-is (g .by sc lo c sh f h (nd .inner ∙ en)) (w .is))))
+      | aDefault a z ↦ λ so. absurd (omega arith)
+    ];
   }
 
 module _ (text : List ℕ) {s : List ℕ} {from end top : ℕ} (k : ℕ) (t₀ : List ℕ) (st₀ : State) where
