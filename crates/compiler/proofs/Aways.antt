@@ -1,20 +1,15 @@
 -- BREAK, LOOP, ENDCASE, RETURN and FINISH: a jump or an act, or 13 where there is nothing to leave. And a call as a command.
-use Rattle.laws.proofs.Basics.{ℕ, _+_, _-_, _≤_, _≡_, refl, sym, ap, subst, _∙_, List, [], _∷_, true, false, length, getD, arith, eq-eqb, ne-eqb}
+use Rattle.laws.proofs.Basics.{ℕ, _+_, _-_, _≤_, _≡_, refl, ap, subst, _∙_, List, [], _∷_, true, false, length, getD, arith, eq-eqb, ne-eqb}
 use Rattle.language.specs.Kinds as K
 use Rattle.language.specs.Tree as T
 use Rattle.compiler.proofs.Language.{Expression, Unlabelled, depth, unlabelledDepth, unlabelled, FineUnlabelled, inUnlabelled, ofCmd, encode}
-use Rattle.compiler.proofs.Language.{encodeUnlabelled}
 use Rattle.tree.specs.Encoding as O
 use Rattle.code.specs.Generate as G
-use Rattle.compiler.proofs.Vocabulary.{State, Here, Ways, Node, FineE, FinePlain, leavableBy, NodeAt, Emits, Faulted, LeavesTo, Lies, Result}
-use Rattle.compiler.proofs.Vocabulary.{ReadyE, GaveE}
-use Rattle.compiler.specs.Commands.{cmdSays, ReadyU, GaveU, GoesAway}
-use Rattle.compiler.proofs.Scoping.{keeps-all}
-use Rattle.compiler.proofs.Done.{emits-did, did-as, same-refl}
-use Rattle.compiler.proofs.Parts.{sub}
-use Rattle.compiler.proofs.Anywhere.{with-ways}
+use Rattle.compiler.proofs.Vocabulary.{State, Here, Ways, Node, FineE, FinePlain, NodeAt, Emits, Faulted, LeavesTo, Lies, ReadyE, GaveE}
+use Rattle.compiler.proofs.Vocabulary.{ReadyU, GaveU, GoesAway}
+use Rattle.compiler.proofs.Common.{keeps-all, emits-did, did-as, same-refl, sub, with-ways}
 use Rattle.compiler.proofs.Forms as F
-use Rattle.compiler.proofs.Forms.{Form, form-at}
+use Rattle.compiler.proofs.Forms.{Form, form-at, same-long}
 
 module _ {here : Here} {ways : Ways} {word place : ℕ} {t : List ℕ} {st r : State} where
   module _ {t′ : List ℕ} where
@@ -51,10 +46,8 @@ module _ {here : Here} {ways : Ways} {word place : ℕ} {t : List ℕ} {st r : S
 
 -- ---- the commands themselves
 
-pub record IsLeave (s : List ℕ) (end w : ℕ) (u : Unlabelled) : Type 0 where
-  pub place : ℕ
-  pub same : u ≡ T.leave w place
-  pub place-of : getD s (end - 2) 0 ≡ place
+abbrev IsLeave : (s : List ℕ) (end w : ℕ) → Unlabelled → Type 0
+IsLeave s end w u = (p : ℕ) × (u ≡ T.leave w p) × (getD s (end - 2) 0 ≡ p)
 
 -- what is nothing else leaves
 is-leave : {s : List ℕ} {lo end k : ℕ} {u : Unlabelled} → Form s lo end k u → (k ≡ K.RESULTIS → ⊥) → (k ≡ K.IF → ⊥) → (k ≡ K.UNLESS → ⊥)
@@ -68,14 +61,14 @@ is-leave (F.anUnless p q) a b c d e f g h i j l = absurd (c refl)
 is-leave (F.aWhile p q) a b c d e f g h i j l = absurd (g refl)
 is-leave (F.anUntil p q) a b c d e f g h i j l = absurd (h refl)
 is-leave (F.aFor p q r) a b c d e f g h i j l = absurd (i refl)
-is-leave (F.aSwitch p q r) a b c d e f g h i j l = absurd (j refl)
+is-leave (F.aSwitch p) a b c d e f g h i j l = absurd (j refl)
 is-leave (F.aResult p q r) a b c d e f g h i j l = absurd (a refl)
-is-leave (F.aBlock p q r t) a b c d e f g h i j l = absurd (d refl)
-is-leave (F.anEndcase {p} x) a b c d e f g h i j l = record { place = p; same = refl; place-of = x }
-is-leave (F.aBreak {p} x) a b c d e f g h i j l = record { place = p; same = refl; place-of = x }
-is-leave (F.aLoop {p} x) a b c d e f g h i j l = record { place = p; same = refl; place-of = x }
-is-leave (F.aReturn {p} x) a b c d e f g h i j l = record { place = p; same = refl; place-of = x }
-is-leave (F.aFinish {p} x) a b c d e f g h i j l = record { place = p; same = refl; place-of = x }
+is-leave (F.aBlock p) a b c d e f g h i j l = absurd (d refl)
+is-leave (F.anEndcase {p} x) a b c d e f g h i j l = (p, refl, x)
+is-leave (F.aBreak {p} x) a b c d e f g h i j l = (p, refl, x)
+is-leave (F.aLoop {p} x) a b c d e f g h i j l = (p, refl, x)
+is-leave (F.aReturn {p} x) a b c d e f g h i j l = (p, refl, x)
+is-leave (F.aFinish {p} x) a b c d e f g h i j l = (p, refl, x)
 
 pub away-gave : (text : List ℕ) (ways : Ways) {s t t′ : List ℕ} {end : ℕ} {here : Here} {st r : State} (n : Node) → NodeAt s end n
     → (n .kind ≡ K.RESULTIS → ⊥) → (n .kind ≡ K.IF → ⊥) → (n .kind ≡ K.UNLESS → ⊥) → (n .kind ≡ K.BEGIN → ⊥) → (n .kind ≡ K.ASSIGN → ⊥)
@@ -84,7 +77,7 @@ pub away-gave : (text : List ℕ) (ways : Ways) {s t t′ : List ℕ} {end : ℕ
 unfolding inUnlabelled unlabelled
 away-gave text ways {s} {t} {t′} {end} {here} {st} {r} n nd a b c d e f g h i j l x = record {
   by = λ y. let u = is-leave (form-at n nd refl y) a b c d e f g h i j l in let sc = y .scope in
-      rw (u .same) (record { keeps = keeps-all; did = did-as _ _ (rw (nd .place ∙ u .place-of) at x .did) same-refl (λ k v. refl) (omega arith) });
+      rw (u .1) (record { keeps = keeps-all; did = did-as _ _ (rw (nd .place ∙ u .2) at x .did) same-refl (λ k v. refl) (omega arith) });
 }
 
 -- ---- a call
@@ -102,24 +95,20 @@ module _ {s : List ℕ} {end : ℕ} {here : Here} {st : State} (n : Node) (nd : 
   pub call-is : (y : ReadyU s end here st) → IsCall s (y .lo) end (y .tree)
   call-is y = is-call (form-at n nd q y)
 
-  pub call-deep : (y : ReadyU s end here st) → depth (call-is y .part) ≤ here .left
-  unfolding unlabelledDepth
-  call-deep y = omega (arith, ap unlabelledDepth (call-is y .same))
-
-  pub call-fine : (y : ReadyU s end here st) → FineE (call-is y .part)
-  unfolding FineUnlabelled
-  call-fine y = subst FinePlain (call-is y .same) (y .fine) .0 .0
+  pub call-fits : (y : ReadyU s end here st) → (depth (call-is y .part) ≤ here .left) × FineE (call-is y .part)
+  unfolding FineUnlabelled unlabelledDepth
+  call-fits y = let u = call-is y in (omega (arith, ap unlabelledDepth (u .same)), subst FinePlain (u .same) (y .fine) .0 .0)
 
   abbrev pub performed-part : ReadyU s end here st → ReadyE s end here st
-  performed-part y = let u = call-is y in sub y keeps-all (u .lies) refl (omega (arith, call-deep y)) (call-fine y)
+  performed-part y = let u = call-is y in sub y keeps-all (u .lies) refl (omega (arith, call-fits y .0)) (call-fits y .1)
 
   pub performed-gave : (text : List ℕ) (ways : Ways) {s₁ t t₁ : List ℕ} {r : State} → GaveE text s s₁ end here t t₁ st r
       → GaveU text s s₁ end here ways t t₁ st r
   unfolding inUnlabelled unlabelled G.cmdCode ofCmd G.cmdLabels
-  performed-gave text ways {s₁} {t} {t₁} {r} g = record {
-    by = λ y.
-        let u = call-is y in let x = g .by (performed-part y) in let sc = y .scope in let h = here .height in
-        subst (λ (v : Unlabelled). Result (inUnlabelled text sc (leavableBy ways here) h v) (cmdSays here ways (unlabelled text sc h v))
-        (length (encodeUnlabelled (y .tree))) (y .base) here s s₁ t t₁ st r) (sym (u .same))
-        (record { keeps = x .keeps; did = did-as _ _ (with-ways text sc here ways h (u .part) (x .did)) same-refl (λ k v. refl) (omega arith) });
+  performed-gave text ways g = record {
+    by = λ y. let u = call-is y in let x = g .by (performed-part y) in rw (u .same) (record {
+      keeps = x .keeps;
+      did = did-as _ _ (with-ways text (y .scope) here ways (here .height) (u .part) (x .did)) same-refl (λ k v. refl)
+          (omega (arith, same-long (u .same)));
+    });
   }

@@ -4,27 +4,24 @@ use Rattle.language.specs.Tree as T
 use Rattle.compiler.proofs.Language.{Name, Expressions, Command, Commands, Unlabelled, commandDepth, commandsDepth, unlabelledDepth}
 use Rattle.compiler.proofs.Language.{localsDepth, Scope, opened, declared, forVector, judgedWord, expressions, commands, unlabelled, locals}
 use Rattle.compiler.proofs.Language.{valuesBefore, declareAll, scopeAfter, heightAfter, ofExprs, ofLocals, ofCmd, ofCmds, Leavable, inCommands}
-use Rattle.compiler.proofs.Language.{inLocals, inUnlabelled, encodeCommand, encodeCommands, encodeUnlabelled, encodeLocals, FineCommands}
-use Rattle.compiler.proofs.Language.{FineLocals, FineUnlabelled}
+use Rattle.compiler.proofs.Language.{inLocals, inUnlabelled, encodeCommand, encodeCommands, encodeLocals, FineCommands, FineLocals}
+use Rattle.compiler.proofs.Language.{FineUnlabelled}
 use Rattle.language.specs.Names as N
 use Rattle.language.specs.Resolved as R
 use Rattle.language.specs.Heights as H
 use Rattle.code.specs.Generate as G
 use Rattle.compiler.proofs.Vocabulary.{Shows, Keeps, Pushed, State, Here, Ways, Node, FineC, FineCs, FineLs, FinePlain, marked, placed}
-use Rattle.compiler.proofs.Vocabulary.{leavable, leavableBy, exits, NodeAt, Code, Did, Lies, Result}
-use Rattle.compiler.proofs.Scoping.{keeps-all, keeps-then, keeps-lower, pushed-keeps, pushed-mark}
+use Rattle.compiler.proofs.Vocabulary.{leavable, leavableBy, NodeAt, Did, Lies, cmdSays, cmdsSays, ReadyC, GaveC, ReadyU, GaveU, ReadyList}
+use Rattle.compiler.proofs.Vocabulary.{GaveList}
+use Rattle.compiler.proofs.Common.{and, keeps-then, keeps-lower, pushed-keeps, pushed-mark, did-none, did-then, did-as, same-refl, same-eq}
+use Rattle.compiler.proofs.Common.{code-is, IsTwo, ends, moved, First, first-of, Rest, rest-all, taken-sizes, rest-next, Kind, Part, begins}
+use Rattle.compiler.proofs.Common.{ready-one, rest-length, goes-on, ended, any-expressions}
 use Rattle.compiler.specs.declared.steps.Placed.{Placed}
-use Rattle.compiler.specs.Commands.{cmdSays, cmdsSays, ReadyC, GaveC, ReadyU, GaveU, ReadyList, GaveList}
 use Rattle.compiler.specs.Locals.{Local, aVector, someValues, withLocal, encodeLocal, localDepth, FineLocal, scopeWith, heightWith, faultsL}
 use Rattle.compiler.specs.Locals.{localSays, ReadyLocal, GaveLocal, localsSays, ReadyLocals, GaveLocals}
-use Rattle.compiler.proofs.Done.{did-none, did-then, did-as, same-refl, same-eq, code-is}
-use Rattle.compiler.proofs.Trees.{IsTwo, is-two, ends}
-use Rattle.compiler.proofs.Parts.{moved}
-use Rattle.compiler.proofs.Lists.{First, first-of, Kind, Part, begins, ready-one, rest-length, goes-on, ended}
 use Rattle.compiler.proofs.Calls.{count-resolved}
 use Rattle.compiler.proofs.Forms as F
-use Rattle.compiler.proofs.Forms.{Form, form-at}
-use Rattle.compiler.proofs.Anywhere.{any-expressions}
+use Rattle.compiler.proofs.Forms.{Form, form-at, same-long}
 
 -- ---- a list of commands
 
@@ -93,54 +90,25 @@ module _ (text t₀ : List ℕ) (w : Ways) {s₀ : List ℕ} {from end : ℕ} {h
 
 -- ---- what one declaration more says
 
-module _ (text : List ℕ) (sc : Scope) (h : ℕ) where
-  scope-with : (x : Local) (ls : T.Locals)
-      → scopeAfter text sc h (withLocal x ls) ≡ scopeAfter text (scopeWith text sc h x) (heightWith text sc h x) ls
-  unfolding scopeAfter scopeWith heightWith
-  scope-with (aVector n c) ls = refl
-  scope-with (someValues ns es) ls = refl
+with-local : (text : List ℕ) (sc : Scope) (here : Here) (x : Local) (ls : T.Locals)
+    → let h = here .height in let sc′ = scopeWith text sc h x in let h′ = heightWith text sc h x in
+    (scopeAfter text sc h (withLocal x ls) ≡ scopeAfter text sc′ h′ ls) × (heightAfter text sc h (withLocal x ls) ≡ heightAfter text sc′ h′ ls)
+    × (inLocals text sc (leavable here) h (withLocal x ls) ≡ faultsL text sc here x ++ inLocals text sc′ (leavable here) h′ ls)
+unfolding scopeAfter heightAfter inLocals faultsL scopeWith heightWith
+with-local text sc here (aVector n c) ls = (refl, refl, refl)
+with-local text sc here (someValues ns es) ls = (refl, refl, refl)
 
-  height-with : (x : Local) (ls : T.Locals)
-      → heightAfter text sc h (withLocal x ls) ≡ heightAfter text (scopeWith text sc h x) (heightWith text sc h x) ls
-  unfolding heightAfter scopeWith heightWith
-  height-with (aVector n c) ls = refl
-  height-with (someValues ns es) ls = refl
-
-faults-with : (text : List ℕ) (sc : Scope) (here : Here) (x : Local) (ls : T.Locals)
-    → inLocals text sc (leavable here) (here .height) (withLocal x ls) ≡ faultsL text sc here x ++ inLocals text (scopeWith text sc (here .height) x)
-    (leavable here) (heightWith text sc (here .height) x) ls
-unfolding inLocals faultsL scopeWith heightWith
-faults-with text sc here (aVector n c) ls = refl
-faults-with text sc here (someValues ns es) ls = refl
-
-module _ (strings : ℕ) where
-  values-code : (h n : ℕ) (es : R.Exprs) (ls : R.Locals)
-      → G.localsCode strings h n (valuesBefore es ls) ≡ G.exprsCode strings h n es ++ G.localsCode strings (h + H.count es) (n + G.exprsLabels es) ls
-  unfolding G.localsCode G.exprsCode H.count G.exprsLabels
-  values-code h n R.none ls =
-      let a : h ≡ h + 0 = omega arith in let b : n ≡ n + 0 = omega arith in
-      cc
-  values-code h n (R.and e es) ls =
-      let a : h + 1 + H.count es ≡ h + suc (H.count es) = omega arith in let b : n + G.exprLabels e + G.exprsLabels es ≡ n
-      + (G.exprLabels e + G.exprsLabels es) = omega arith in
-      simp (values-code (h + 1) (n + G.exprLabels e) es ls, a, b, append-assoc)
-
-values-heights : (h : ℕ) (es : R.Exprs) (ls : R.Locals) → ofLocals h (valuesBefore es ls) ≡ ofExprs h es ++ ofLocals (h + H.count es) ls
-unfolding ofLocals ofExprs H.count
-values-heights h R.none ls = let a : h ≡ h + 0 = omega arith in cc
-values-heights h (R.and e es) ls =
-    let a : h + 1 + H.count es ≡ h + suc (H.count es) = omega arith in
-    simp (values-heights (h + 1) es ls, a, append-assoc)
-
-values-labels : (es : R.Exprs) (ls : R.Locals) → G.localsLabels (valuesBefore es ls) ≡ G.exprsLabels es + G.localsLabels ls
-unfolding G.localsLabels G.exprsLabels
-values-labels R.none ls = omega arith
-values-labels (R.and e es) ls = omega (arith, values-labels es ls)
-
-values-after : (h : ℕ) (es : R.Exprs) (ls : R.Locals) → H.heightWith h (valuesBefore es ls) ≡ H.heightWith (h + H.count es) ls
-unfolding H.heightWith H.count
-values-after h R.none ls = let a : h ≡ h + 0 = omega arith in cc
-values-after h (R.and e es) ls = let a : h + 1 + H.count es ≡ h + suc (H.count es) = omega arith in rw (values-after (h + 1) es ls, a)
+-- values in front of other locals: code, heights, labels, and the height after all
+values-before : (strings h n : ℕ) (es : R.Exprs) (ls : R.Locals) → let vs = valuesBefore es ls in let k = h + H.count es in
+    (G.localsCode strings h n vs ≡ G.exprsCode strings h n es ++ G.localsCode strings k (n + G.exprsLabels es) ls)
+    × (ofLocals h vs ≡ ofExprs h es ++ ofLocals k ls) × (G.localsLabels vs ≡ G.exprsLabels es + G.localsLabels ls)
+    × (H.heightWith h vs ≡ H.heightWith k ls)
+unfolding G.localsCode G.exprsCode H.count G.exprsLabels ofLocals ofExprs G.localsLabels H.heightWith
+values-before strings h n R.none ls = let a : h ≡ h + 0 = omega arith in let b : n ≡ n + 0 = omega arith in (cc, cc, omega arith, cc)
+values-before strings h n (R.and e es) ls =
+    let i = values-before strings (h + 1) (n + G.exprLabels e) es ls in let a : h + 1 + H.count es ≡ h + suc (H.count es) = omega arith in
+    let b : n + G.exprLabels e + G.exprsLabels es ≡ n + (G.exprLabels e + G.exprsLabels es) = omega arith in
+    (simp (i .0, a, b, append-assoc), simp (i .1, a, append-assoc), omega (arith, i .2), rw (i .3, a))
 
 count-is : (text : List ℕ) (sc : Scope) (h : ℕ) (ns : List Name) (es : Expressions) → length ns ≡ T.count es
     → h + H.count (expressions text sc h es) ≡ h + length ns
@@ -148,23 +116,15 @@ count-is text sc h ns es e = omega (arith, count-resolved text sc h es)
 
 -- the code of one and then of the others
 code-with : (text : List ℕ) (sc : Scope) (here : Here) (n : ℕ) (x : Local) (ls : T.Locals) → FineLocal x
-    → let sc′ = scopeWith text sc (here .height) x in let h′ = heightWith text sc (here .height) x in let c = localSays text sc here x n in
-    _≡_ {A = Code}
-    (record {
-      items = c .items ++ G.localsCode (here .strings) h′ (n + c .labels) (locals text sc′ h′ ls);
-      heights = c .heights ++ ofLocals h′ (locals text sc′ h′ ls);
-      labels = c .labels + G.localsLabels (locals text sc′ h′ ls);
-    })
-    (localsSays here (here .height) (locals text sc (here .height) (withLocal x ls)) n)
+    → let h = here .height in let sc′ = scopeWith text sc h x in let h′ = heightWith text sc h x in
+    and (localSays text sc here x) (localsSays here h′ (locals text sc′ h′ ls)) n ≡ localsSays here h (locals text sc h (withLocal x ls)) n
 unfolding locals localSays scopeWith heightWith FineLocal G.localsCode ofLocals G.localsLabels
 code-with text sc here n (aVector m c) ls f =
     let h = here .height in let h′ = h + 2 + judgedWord (forVector text sc c) in let ls′ = locals text (declared sc m (N.local h)) h′ ls in
-    let a : n + 0 ≡ n = omega arith in
-    code-is (rw a) refl (omega arith)
+    let a : n + 0 ≡ n = omega arith in code-is (rw a) refl (omega arith)
 code-with text sc here n (someValues ns es) ls f =
     let h = here .height in let rs = expressions text sc h es in let ls′ = locals text (declareAll sc h ns) (h + length ns) ls in
-    let k = count-is text sc h ns es (f .0) in
-    code-is (cc (values-code (here .strings) h n rs ls′)) (cc (values-heights h rs ls′)) (sym (values-labels rs ls′))
+    let k = count-is text sc h ns es (f .0) in let v = values-before (here .strings) h n rs ls′ in code-is (cc (v .0)) (cc (v .1)) (sym (v .2))
 
 -- ---- one of the list
 
@@ -193,45 +153,31 @@ local-fine (someValues ns es) ls f = ((sym (f .2), f .0, f .3), f .1)
 
 -- ---- the loop over declarations: the scope and the height change on the way
 
+abbrev pub DidLocals : (text : List ℕ) → Here → Scope → (h : ℕ) → T.Locals → (t t′ : List ℕ) (st st′ : State) → Type 0
+DidLocals text here sc h ls = Did (inLocals text sc (leavable here) h ls) (localsSays here h (locals text sc h ls)) (2 * length (encodeLocals ls))
+
 module _ (text t₀ : List ℕ) {s₀ : List ℕ} {from end : ℕ} {here : Here} {st₀ : State} where
   pub record LocalsPart (y : ReadyLocals s₀ from end here st₀) (s t : List ℕ) (at : ℕ) (r : Placed) : Type 0 where
-    pub rest : T.Locals
+    pub left : Rest encodeLocals (y .ready .base) (here .top) s₀ s end at
     pub scope : Scope
-    pub lies : Lies s₀ at (encodeLocals rest)
-    pub ends : end ≡ at + length (encodeLocals rest)
-    pub starts : from ≤ at
     pub shows : Shows s (r .top) scope
-    pub keeps : Keeps (y .ready .base) (here .top) s₀ s
-    pub above : here .top ≤ r .top
-    pub room : r .top * 2 + length (encodeLocals rest) ≤ here .top * 2 + length (encodeLocals (y .ready .tree))
-    pub tall : r .height + 4100 * length (encodeLocals rest) ≤ here .height + 4100 * length (encodeLocals (y .ready .tree))
-    pub label : r .done .label + 2 * length (encodeLocals rest) ≤ st₀ .label + 2 * length (encodeLocals (y .ready .tree))
-    pub some : 0 < r .done .label
-    pub shallow : localsDepth rest ≤ here .left
-    pub fine : FineLs rest
-    pub scopes : scopeAfter text (y .ready .scope) (here .height) (y .ready .tree) ≡ scopeAfter text scope (r .height) rest
-    pub heights : heightAfter text (y .ready .scope) (here .height) (y .ready .tree) ≡ heightAfter text scope (r .height) rest
-    pub finish : (t′ : List ℕ) (st′ : State)
-        → Did (inLocals text scope (leavable here) (r .height) rest) (localsSays here (r .height) (locals text scope (r .height) rest))
-        (2 * length (encodeLocals rest)) t t′ (r .done) st′ → Did (inLocals text (y .ready .scope) (leavable here) (here .height) (y .ready .tree))
-        (localsSays here (here .height) (locals text (y .ready .scope) (here .height) (y .ready .tree))) (2 * length (encodeLocals (y .ready .tree)))
-        t₀ t′ st₀ st′
+    -- room for names, heights, labels and levels for what is left
+    pub bounds : (here .top ≤ r .top) × (0 < r .done .label) × (localsDepth (left .rest) ≤ here .left)
+        × (r .top * 2 + length (encodeLocals (left .rest)) ≤ here .top * 2 + length (encodeLocals (y .ready .tree)))
+        × (r .height + 4100 * length (encodeLocals (left .rest)) ≤ here .height + 4100 * length (encodeLocals (y .ready .tree)))
+        × (r .done .label + 2 * length (encodeLocals (left .rest)) ≤ st₀ .label + 2 * length (encodeLocals (y .ready .tree)))
+    pub fine : FineLs (left .rest)
+    pub scopes : scopeAfter text (y .ready .scope) (here .height) (y .ready .tree) ≡ scopeAfter text scope (r .height) (left .rest)
+    pub heights : heightAfter text (y .ready .scope) (here .height) (y .ready .tree) ≡ heightAfter text scope (r .height) (left .rest)
+    pub finish : (t′ : List ℕ) (st′ : State) → DidLocals text here scope (r .height) (left .rest) t t′ (r .done) st′
+        → DidLocals text here (y .ready .scope) (here .height) (y .ready .tree) t₀ t′ st₀ st′
 
   pub locals-begin : (y : ReadyLocals s₀ from end here st₀) → LocalsPart y s₀ t₀ from (record { top = here .top; height = here .height; done = st₀ })
   locals-begin y = let z = y .ready in record {
-    rest = z .tree;
+    left = rest-all (z .tree) (rw (y .starts) at (z .lies)) (omega arith) (omega arith);
     scope = z .scope;
-    lies = rw (y .starts) at (z .lies);
-    ends = omega arith;
-    starts = omega arith;
     shows = z .shows;
-    keeps = keeps-all;
-    above = omega arith;
-    room = omega arith;
-    tall = omega arith;
-    label = omega arith;
-    some = z .some;
-    shallow = z .shallow;
+    bounds = omega arith;
     fine = z .fine;
     scopes = refl;
     heights = refl;
@@ -240,17 +186,13 @@ module _ (text t₀ : List ℕ) {s₀ : List ℕ} {from end : ℕ} {here : Here}
 
   module _ {s t : List ℕ} {at size next : ℕ} {r : Placed} (l : at < end) (es : size ≡ getD s at 0) (en : next ≡ at + 2 + size) where
     module _ (y : ReadyLocals s₀ from end here st₀) (p : LocalsPart y s t at r) where
-      abbrev pub one : First encodeLocals encodeLocal (λ x. 3) withLocal s₀ at end (p .rest)
-      one = is-local (p .rest) (p .lies) (p .ends) l
+      abbrev pub one : First encodeLocals encodeLocal (λ x. 3) withLocal s₀ at end (p .left .rest)
+      one = is-local (p .left .rest) (p .left .lies) (p .left .ends) l
 
-      pub locals-size : size ≡ length (encodeLocal (one .part))
-      locals-size = es ∙ p .keeps .above at (omega arith) ∙ one .size-of
-
-      pub locals-length : length (encodeLocals (p .rest)) ≡ 2 + length (encodeLocal (one .part)) + length (encodeLocals (one .more))
-      locals-length = omega (arith, p .ends, one .ends)
-
-      pub locals-deep : (localDepth (one .part) ≤ here .left) × (localsDepth (one .more) ≤ here .left)
-      locals-deep = local-deep (one .part) (one .more) (rw (one .same) at (p .shallow))
+      pub locals-sizes : ((size ≡ length (encodeLocal (one .part)))
+          × (length (encodeLocals (p .left .rest)) ≡ 2 + length (encodeLocal (one .part)) + length (encodeLocals (one .more))))
+          × (localDepth (one .part) ≤ here .left) × (localsDepth (one .more) ≤ here .left)
+      locals-sizes = let d = local-deep (one .part) (one .more) (rw (one .same) at (p .bounds .2)) in (taken-sizes (p .left) one es, d .0, d .1)
 
       pub locals-fine : FineLocal (one .part) × FineLs (one .more)
       locals-fine = local-fine (one .part) (one .more) (subst FineLs (one .same) (p .fine))
@@ -258,8 +200,8 @@ module _ (text t₀ : List ℕ) {s₀ : List ℕ} {from end : ℕ} {here : Here}
     abbrev pub locals-part : (y : ReadyLocals s₀ from end here st₀) → LocalsPart y s t at r
         → ReadyLocal s next (placed (r .top) (r .height) here) (r .done)
     locals-part y p = let z = y .ready in let u = one y p in
-        moved z (p .keeps) (p .scope) (u .lies) (p .shows) (omega (arith, locals-length y p))
-        (omega (arith, locals-size y p, locals-length y p, locals-deep y p .0)) (locals-fine y p .0)
+        moved z (p .left .keeps) (p .scope) (u .lies) (p .shows) (omega (arith, locals-sizes y p)) (omega (arith, locals-sizes y p))
+        (locals-fine y p .0)
 
     pub locals-next : {s₁ t₁ : List ℕ} {r′ : Placed} → GaveLocal text s s₁ next (placed (r .top) (r .height) here) t t₁ (r .done) r′
         → (y : ReadyLocals s₀ from end here st₀) → LocalsPart y s t at r → LocalsPart y s₁ t₁ next r′
@@ -267,42 +209,29 @@ module _ (text t₀ : List ℕ) {s₀ : List ℕ} {from end : ℕ} {here : Here}
         let z = y .ready in let u = one y p in let x = g .by (locals-part y p) in let sc = p .scope in let h = r .height in
         let sc′ = scopeWith text sc h (u .part) in let h′ = heightWith text sc h (u .part) in let k = x .after in let now = placed (r .top) h here in
         record {
-          rest = u .more;
+          left = rest-next (p .left) u es en (keeps-lower (p .bounds .0) (k .keeps));
           scope = sc′;
-          lies = subst (λ (n : ℕ). Lies s₀ n (encodeLocals (u .more))) (omega (arith, locals-size y p)) (u .lies-more);
-          ends = omega (arith, locals-size y p);
-          starts = omega arith;
           shows = k .shows;
-          keeps = keeps-then (p .keeps) (keeps-lower (p .above) (k .keeps));
-          above = omega arith;
-          room = omega (arith, locals-length y p);
-          tall = omega (arith, locals-length y p);
-          label = omega (arith, locals-length y p);
-          some = omega arith;
-          shallow = locals-deep y p .1;
+          bounds = omega (arith, locals-sizes y p);
           fine = locals-fine y p .1;
-          scopes = cc (scope-with text sc h (u .part) (u .more));
-          heights = cc (height-with text sc h (u .part) (u .more));
-          finish = λ t′ st′ d. p .finish t′ st′
-              (subst (λ (ls : T.Locals). Did (inLocals text sc (leavable here) h ls) (localsSays here h (locals text sc h ls))
-              (2 * length (encodeLocals (p .rest))) t t′ (r .done) st′) (sym (u .same))
-              (did-as (localsSays here h (locals text sc h (withLocal (u .part) (u .more)))) _ (did-then (x .did)
-              (subst (λ (n : ℕ). Did (inLocals text sc′ (leavable here) n (u .more)) (localsSays here n (locals text sc′ n (u .more)))
-              (2 * length (encodeLocals (u .more))) t₁ t′ (r′ .done) st′) (k .height) d))
-              (same-eq (sym (faults-with text sc now (u .part) (u .more)))) (λ m e. code-with text sc now m (u .part) (u .more) (locals-fine y p .0))
-              (omega (arith, locals-length y p))));
+          scopes = cc (with-local text sc now (u .part) (u .more) .0);
+          heights = cc (with-local text sc now (u .part) (u .more) .1);
+          finish = λ t′ st′ d. p .finish t′ st′ (rw (u .same) (did-as (localsSays here h (locals text sc h (withLocal (u .part) (u .more)))) _
+              (did-then (x .did) (rw (k .height) at d)) (same-eq (sym (with-local text sc now (u .part) (u .more) .2)))
+              (λ m e. code-with text sc now m (u .part) (u .more) (locals-fine y p .0))
+              (omega (arith, locals-sizes y p, ap (λ (ls : T.Locals). length (encodeLocals ls)) (u .same)))));
         }
 
   pub locals-end : {s t : List ℕ} {at : ℕ} {r : Placed} → end ≤ at → ((y : ReadyLocals s₀ from end here st₀) → LocalsPart y s t at r)
       → GaveLocals text s₀ s from end here t₀ t st₀ r
   unfolding inLocals locals scopeAfter heightAfter G.localsCode ofLocals G.localsLabels encodeLocals
   locals-end {s} {t} {at} {r} l q = record {
-    by = λ y. let p = q y in let e = no-local (p .rest) (p .ends) l in let z = y .ready in record {
+    by = λ y. let p = q y in let e = no-local (p .left .rest) (p .left .ends) l in let z = y .ready in record {
       after = record {
         shows = rw (p .scopes ∙ ap (scopeAfter text (p .scope) (r .height)) e) (p .shows);
         height = sym (p .heights ∙ ap (heightAfter text (p .scope) (r .height)) e);
-        keeps = p .keeps;
-        above = p .above;
+        keeps = p .left .keeps;
+        above = p .bounds .0;
         room = omega arith;
         tall = omega arith;
       };
@@ -313,7 +242,7 @@ module _ (text t₀ : List ℕ) {s₀ : List ℕ} {from end : ℕ} {here : Here}
 -- ---- a block
 
 is-block : {s : List ℕ} {lo end : ℕ} {u : Unlabelled} → Form s lo end 57 u → IsTwo encodeLocals encodeCommands T.block s lo end u
-is-block (F.aBlock {ls} {cs} h v z q) = is-two encodeLocals encodeCommands T.block ls cs h z v q
+is-block (F.aBlock h) = h
 
 -- locals anywhere
 any-locals : (text : List ℕ) (l m : Leavable) (q : l .routine ≡ m .routine) (sc : Scope) (h : ℕ) (ls : T.Locals)
@@ -329,32 +258,22 @@ heights-agree : (text : List ℕ) (sc : Scope) (h : ℕ) (ls : T.Locals) → Fin
 unfolding locals heightAfter H.heightWith FineLocals
 heights-agree text sc h T.noLocals f = refl
 heights-agree text sc h (T.vector n c ls) f = heights-agree text (declared sc n (N.local h)) (h + 2 + judgedWord (forVector text sc c)) ls (f .1)
-heights-agree text sc h (T.values ns es ls) f =
-    let ls′ = locals text (declareAll sc h ns) (h + length ns) ls in
-    rw (
-      values-after h (expressions text sc h es) ls′,
-      count-is text sc h ns es (sym (f .2)),
-      heights-agree text (declareAll sc h ns) (h + length ns) ls (f .1),
-    )
+heights-agree text sc h (T.values ns es ls) f = let sc′ = declareAll sc h ns in let k = h + length ns in
+    let v = values-before 0 h 0 (expressions text sc h es) (locals text sc′ k ls) .3 in
+    rw (v, count-is text sc h ns es (sym (f .2)), heights-agree text sc′ k ls (f .1))
 
 module _ {s : List ℕ} {end : ℕ} {here : Here} {st : State} (n : Node) (nd : NodeAt s end n) (q : getD s (end - 1) 0 ≡ 57) {middle : ℕ}
     (m : middle ≡ n .start + n .value) where
   pub block-is : (y : ReadyU s end here st) → IsTwo encodeLocals encodeCommands T.block s (y .lo) end (y .tree)
   block-is y = is-block (form-at n nd (nd .kind ∙ q) y)
 
-  pub block-fine : (y : ReadyU s end here st) → FineLs (block-is y .left) × FineCs (block-is y .list)
-  unfolding FineUnlabelled
-  block-fine y = subst FinePlain (block-is y .same) (y .fine) .0
-
-  pub block-deep : (y : ReadyU s end here st)
-      → (localsDepth (block-is y .left) ≤ here .left) × (commandsDepth (block-is y .list) ≤ here .left)
-  unfolding unlabelledDepth
-  block-deep y = (omega (arith, ap unlabelledDepth (block-is y .same)), omega (arith, ap unlabelledDepth (block-is y .same)))
+  pub block-parts : (y : ReadyU s end here st) → let u = block-is y in
+      (FineLs (u .left) × FineCs (u .list)) × (localsDepth (u .left) ≤ here .left) × (commandsDepth (u .list) ≤ here .left)
+  unfolding FineUnlabelled unlabelledDepth
+  block-parts y = let u = block-is y in let e = ap unlabelledDepth (u .same) in (subst FinePlain (u .same) (y .fine) .0, omega arith, omega arith)
 
   pub block-start : (y : ReadyU s end here st) → (n .start ≡ y .lo) × (middle ≡ y .lo + length (encodeLocals (block-is y .left)))
-  block-start y =
-      let u = block-is y in
-      (omega arith, omega arith)
+  block-start y = let u = block-is y in (omega arith, omega arith)
 
   pub block-room : (y : ReadyU s end here st) → (here .top + 2 ≤ y .base) × (here .top + 2 ≤ length s)
   block-room y = let u = block-is y in (omega arith, omega arith)
@@ -363,7 +282,7 @@ module _ {s : List ℕ} {end : ℕ} {here : Here} {st : State} (n : Node) (nd : 
     abbrev pub block-locals : ReadyU s end here st → ReadyLocals s₁ (n .start) middle (marked here) st
     block-locals y = let u = block-is y in let k = pushed-keeps pu (block-room y .0) (y .long) in record {
       ready = moved y k (opened (y .scope)) (u .lies) (pushed-mark pu (block-room y .0) (y .long) (y .shows) refl) (omega arith)
-          (omega (arith, block-start y .1, block-deep y .0)) (block-fine y .0);
+          (omega (arith, block-start y .1, block-parts y .1)) (block-parts y .0 .0);
       starts = sym (block-start y .0);
     }
 
@@ -374,7 +293,7 @@ module _ {s : List ℕ} {end : ℕ} {here : Here} {st : State} (n : Node) (nd : 
       abbrev pub block-list : ReadyU s end here st → ReadyList s₂ middle (n .inner) (placed (a .top) (a .height) here) (a .done)
       block-list y = let u = block-is y in let x = g .by (block-locals y) in let k = block-keeps y in record {
         ready = moved y k (scopeAfter text (opened (y .scope)) (here .height) (u .left)) (u .lies-list) (x .after .shows) (omega arith)
-            (omega (arith, block-deep y .1)) (block-fine y .1);
+            (omega (arith, block-parts y .2)) (block-parts y .0 .1);
         starts = sym (block-start y .1);
       }
 
@@ -386,20 +305,12 @@ module _ {s : List ℕ} {end : ℕ} {here : Here} {st : State} (n : Node) (nd : 
             let u = block-is y in let x = g .by (block-locals y) in let z = g₂ .by (block-list y) in let sc = opened (y .scope) in
             let h = here .height in let ls = u .left in
             let LS = locals text sc h ls in let sc′ = scopeAfter text sc h ls in let h′ = heightAfter text sc h ls in let l = leavableBy ways here in
-            let eh : H.heightWith h LS ≡ h′ = heights-agree text sc h ls (block-fine y .0) in
-            subst (λ (v : Unlabelled). Result (inUnlabelled text (y .scope) l h v) (cmdSays here ways (unlabelled text (y .scope) h v))
-            (length (encodeUnlabelled (y .tree))) (y .base) here s s₃ t t₂ st r) (sym (u .same))
-            (record {
+            let eh : H.heightWith h LS ≡ h′ = heights-agree text sc h ls (block-parts y .0 .0) in
+            rw (u .same) (record {
               keeps = keeps-then (block-keeps y) (keeps-lower (omega arith) (z .keeps));
               did = did-as (cmdSays here ways (R.block LS (commands text sc′ h′ (u .list)))) _
-                  (did-then (x .did) (subst (λ (k : ℕ). Did (inCommands text sc′ l k (u .list))
-                  (λ m. record {
-                    items = G.cmdsCode (here .strings) k m (exits ways) (commands text sc′ k (u .list));
-                    heights = ofCmds k (commands text sc′ k (u .list));
-                    labels = G.cmdsLabels (commands text sc′ k (u .list));
-                  })
-                  (2 * length (encodeCommands (u .list))) t₁ t₂ (a .done) r) (x .after .height) (z .did))) (same-eq (rw (any-locals text
-                  (leavable here) l refl sc h ls))) (λ k e. code-is (rw eh) (rw eh) refl) (omega arith);
+                  (did-then (x .did) (rw (x .after .height) at (z .did))) (same-eq (rw (any-locals text
+                  (leavable here) l refl sc h ls))) (λ k e. code-is (rw eh) (rw eh) refl) (omega (arith, same-long (u .same)));
             });
       }
 

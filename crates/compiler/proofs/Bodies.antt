@@ -2,72 +2,37 @@
 use Rattle.laws.proofs.Basics.{ℕ, _≡_, refl, sym, ap, subst, _∙_, List, Bool, true, false, not, length, arith, eq-eqb, ne-eqb}
 use Rattle.language.specs.Kinds as K
 use Rattle.language.specs.Tree as T
-use Rattle.compiler.proofs.Language.{inExpression, depth, commandDepth, bodyDepth, encode, encodeCommand, encodeBody, bodyWord}
+use Rattle.compiler.proofs.Language.{inExpression, bodyDepth, encode, encodeCommand, encodeBody, bodyWord}
 use Rattle.language.specs.Program.{bodyFaults}
 use Rattle.code.specs.Generate as G
-use Rattle.compiler.proofs.Vocabulary.{FineE, FineC, Lies, Ready, Result, ReadyE, GaveE, State, Here, Ways}
-use Rattle.compiler.specs.Commands.{ReadyC, GaveC}
-use Rattle.compiler.specs.Groups.{FineB, bodySays, ReadyBody, GaveBody}
+use Rattle.compiler.proofs.Vocabulary.{Result, ReadyE, GaveE, State, Here, Ways, ReadyC, GaveC, FineB, bodySays, ReadyBody, GaveBody}
+use Rattle.compiler.proofs.Common.{keeps-all, sub}
 
 abbrev pub nowhere : Ways
 nowhere = record { after = 0; next = 0; done = 0; result = 0 }
 
-pub record ValueIs (b : T.Body) : Type 0 where
-  pub part : T.Expression
-  pub same : b ≡ T.value part
-
-pub record RoutineIs (b : T.Body) : Type 0 where
-  pub part : T.Command
-  pub same : b ≡ T.routine part
-
-pub value-is : (b : T.Body) → bodyWord b ≡ K.EQUAL → ValueIs b
+pub value-is : (b : T.Body) → bodyWord b ≡ K.EQUAL → (e : T.Expression) × (b ≡ T.value e)
 unfolding bodyWord
-value-is (T.value e) q = record { part = e; same = refl }
+value-is (T.value e) q = (e, refl)
 value-is (T.routine c) q = absurd (omega arith)
 
-pub routine-is : (b : T.Body) → (bodyWord b ≡ K.EQUAL → ⊥) → RoutineIs b
+pub routine-is : (b : T.Body) → (bodyWord b ≡ K.EQUAL → ⊥) → (c : T.Command) × (b ≡ T.routine c)
 unfolding bodyWord
 routine-is (T.value e) q = absurd (q refl)
-routine-is (T.routine c) q = record { part = c; same = refl }
-
--- what stands there as another kind of tree, with the same entries
-abbrev pub ready-as : {A B : Type 0} {enc : A → List ℕ} {deep : A → ℕ} {Fine : A → Type 0} (enc′ : B → List ℕ) (deep′ : B → ℕ) (Fine′ : B → Type 0)
-    {s : List ℕ} {end : ℕ} {x : Here} {st : State} (z : Ready enc deep Fine s end x st) (b : B)
-    → enc (z .tree) ≡ enc′ b → deep (z .tree) ≡ deep′ b → Fine′ b → Ready enc′ deep′ Fine′ s end x st
-ready-as enc′ deep′ Fine′ {s} {end} {x} {st} z b q d f =
-    let l = ap length q in
-    record {
-      base = z .base;
-      lo = z .lo;
-      tree = b;
-      scope = z .scope;
-      lies = subst (Lies s (z .lo)) q (z .lies);
-      ends = rw (z .ends, l);
-      above = z .above;
-      long = z .long;
-      small = z .small;
-      shows = z .shows;
-      room = rw l at (z .room);
-      height = rw l at (z .height);
-      label = rw l at (z .label);
-      some = z .some;
-      strings = z .strings;
-      shallow = rw d at (z .shallow);
-      fine = f;
-    }
+routine-is (T.routine c) q = (c, refl)
 
 module _ {s : List ℕ} {end word : ℕ} {x : Here} {st : State} where
   abbrev pub ready-value : word ≡ K.EQUAL → ReadyBody s end x st word → ReadyE s end x st
   unfolding encodeBody bodyDepth
-  ready-value e y =
-      let z = y .ready in let v = value-is (z .tree) (sym (y .word-is) ∙ e) in
-      ready-as encode depth FineE z (v .part) (ap encodeBody (v .same)) (ap bodyDepth (v .same)) (subst FineB (v .same) (z .fine))
+  ready-value e y = let z = y .ready in let v = value-is (z .tree) (sym (y .word-is) ∙ e) in
+      let q : encodeBody (z .tree) ≡ encode (v .0) = ap encodeBody (v .1) in
+      sub z keeps-all (rw q at (z .lies)) refl (omega (arith, ap length q, ap bodyDepth (v .1))) (subst FineB (v .1) (z .fine))
 
   abbrev pub ready-routine : (word ≡ K.EQUAL → ⊥) → ReadyBody s end x st word → ReadyC s end x st
   unfolding encodeBody bodyDepth
-  ready-routine e y =
-      let z = y .ready in let v = routine-is (z .tree) (λ k. e (y .word-is ∙ k)) in
-      ready-as encodeCommand commandDepth FineC z (v .part) (ap encodeBody (v .same)) (ap bodyDepth (v .same)) (subst FineB (v .same) (z .fine))
+  ready-routine e y = let z = y .ready in let v = routine-is (z .tree) (λ k. e (y .word-is ∙ k)) in
+      let q : encodeBody (z .tree) ≡ encodeCommand (v .0) = ap encodeBody (v .1) in
+      sub z keeps-all (rw q at (z .lies)) refl (omega (arith, ap length q, ap bodyDepth (v .1))) (subst FineB (v .1) (z .fine))
 
   abbrev Owed : ReadyBody s end x st word → (text s′ t t′ : List ℕ) (r : State) → T.Body → Type 0
   Owed y text s′ t t′ r b = let z = y .ready in
@@ -80,9 +45,9 @@ module _ {s : List ℕ} {end word : ℕ} {x : Here} {st : State} where
       by = λ y.
           let z = y .ready in let v = value-is (z .tree) (sym (y .word-is) ∙ e) in
           let out : x .routine ≡ false = y .routine-is ∙ ap not (eq-eqb word K.EQUAL e) in
-          subst (Owed y text s′ t t′ r) (sym (v .same))
+          subst (Owed y text s′ t t′ r) (sym (v .1))
           (subst (λ (k : Bool). Result (inExpression text (z .scope) (record { loop = false; switch = false; valof = false; routine = k }) (x
-          .height) (v .part)) (bodySays text x (z .scope) (T.value (v .part))) (length (encode (v .part))) (z .base) x s s′ t t′ st r)
+          .height) (v .0)) (bodySays text x (z .scope) (T.value (v .0))) (length (encode (v .0))) (z .base) x s s′ t t′ st r)
           out (g .by (ready-value e y)));
     }
 
@@ -91,5 +56,5 @@ module _ {s : List ℕ} {end word : ℕ} {x : Here} {st : State} where
     gave-routine e g = record {
       by = λ y. let z = y .ready in let v = routine-is (z .tree) (λ k. e (y .word-is ∙ k)) in let out : x .routine ≡ true = y .routine-is ∙ ap not
           (ne-eqb word K.EQUAL e) in
-          subst (Owed y text s′ t t′ r) (sym (v .same)) (rw (← out) (g .by (ready-routine e y)));
+          subst (Owed y text s′ t t′ r) (sym (v .1)) (rw (← out) (g .by (ready-routine e y)));
     }

@@ -1,8 +1,8 @@
 -- Zeros from a place on, where scratch holds nothing but zeros, and `compile`'s contract once they are written.
 use Rattle.laws.proofs.Basics.{ℕ, zero, suc, _+_, _-_, _≤_, _≡_, refl, sym, ap, _∙_, List, _++_, append-assoc, length, getD, take, drop, replicate}
 use Rattle.laws.proofs.Basics.{length-append, length-drop, length-replicate, replicate-append-replicate, List·getD-append, length-take-le, take-at}
-use Rattle.laws.proofs.Basics.{getD-drop, getD-append-add, ext-getD, arith}
-use Rattle.laws.proofs.Cases.{Order, lt, ge, order, contradiction}
+use Rattle.laws.proofs.Basics.{getD-drop, getD-append-add, ext-getD, ltb, arith, ltb-true, ltb-false}
+use Rattle.laws.proofs.Cases.{by-cases, contradiction}
 use Rattle.text.specs.declared.Refusal.{Refusal}
 use Rattle.language.specs.Program.{Refused, accepted, refused}
 use Rattle.language.specs.Whole.{refusalOf, refusalIn, unlessFits}
@@ -23,8 +23,7 @@ module _ (w : List ℕ) (room : ℕ) (h : length w ≤ room) where
   padded-long = omega (arith, length-append w (replicate (room - length w) 0), length-replicate {A = ℕ} (room - length w) 0)
 
   pub padded-on : (n : ℕ) → room ≤ n → padded n w ≡ padded room w ++ replicate (n - room) 0
-  padded-on n k =
-      let z : room - length w + (n - room) ≡ n - length w = omega arith in
+  padded-on n k = let z : room - length w + (n - room) ≡ n - length w = omega arith in
       sym (append-assoc w (replicate (room - length w) 0) (replicate (n - room) 0)
       ∙ ap (λ (r : List ℕ). w ++ r) (replicate-append-replicate (room - length w) (n - room) 0 ∙ ap (λ (m : ℕ). replicate m 0) z))
 
@@ -44,12 +43,11 @@ padded-clean w room e h = record {
 
 -- a front that was lent
 pub clean-front : {s front : List ℕ} {used : ℕ} (k : ℕ) → length front ≡ k → Clean used front → Clean used s → Clean used (front ++ drop k s)
-clean-front {s} {front} {used} k e f c = record { zeros = λ i h. go i h (order i k) }
-  where
-    go : (i : ℕ) → used ≤ i → Order i k → getD (front ++ drop k s) i 0 ≡ 0
-    go i h (lt l) = List·getD-append front (drop k s) 0 i (omega arith) ∙ f .zeros i h
-    go i h (ge l) =
-        at-behind front (drop k s) i (omega arith) ∙ (getD-drop k s (i - length front) 0 ∙ c .zeros (k + (i - length front)) (omega arith))
+clean-front {s} {front} {used} k e f c = record {
+  zeros = λ i h. by-cases (ltb i k) (λ q. List·getD-append front (drop k s) 0 i (omega (arith, ltb-true i k q)) ∙ f .zeros i h)
+      (λ q. let l = ltb-false i k q in
+      at-behind front (drop k s) i (omega arith) ∙ (getD-drop k s (i - length front) 0 ∙ c .zeros (k + (i - length front)) (omega arith)));
+}
 
 -- zeros are written below the place from which there are zeros
 pub clean-all : {s z : List ℕ} {used : ℕ} → Clean used s → used ≤ length s → z ≡ take 0 (take used s) ++ replicate (length (take used s) - 0) 0
@@ -65,8 +63,7 @@ clean-all {s} {z} {used} c h e =
 -- zeros are written behind a front of zeros
 pub zeros-behind : (s front : List ℕ) {s′ : List ℕ} (k : ℕ) → length (take k s) ≡ k → k ≤ length s → front ≡ replicate (length (take k s)) 0
     → s′ ≡ take k (front ++ drop k s) ++ replicate (length (front ++ drop k s) - k) 0 → s′ ≡ replicate (length s) 0
-zeros-behind s front k e h f w =
-    let l : length front ≡ k = ap length f ∙ (length-replicate {A = ℕ} (length (take k s)) 0 ∙ e) in
+zeros-behind s front k e h f w = let l : length front ≡ k = ap length f ∙ (length-replicate {A = ℕ} (length (take k s)) 0 ∙ e) in
     let m : length (front ++ drop k s) - k ≡ length s - k = omega (arith, length-append front (drop k s), length-drop k s) in
     let n : k + (length s - k) ≡ length s = omega arith in
     w ∙ (ap (λ (i : ℕ). take k (front ++ drop k s) ++ replicate i 0) m
@@ -88,11 +85,8 @@ refused-text source text t′ w (refused number place) e l = let z : length t′
 -- what is accepted is faithful and proper
 accepts : (source : List ℕ) (scratch room : ℕ) → decided source scratch room ≡ accepted → refusalOf source scratch ≡ accepted
 unfolding decided refusalIn
-accepts source scratch room h = go (refusalOf source scratch) h
-  where
-    go : (x : Refused) → unlessFits (length (textOf source)) room x ≡ accepted → x ≡ accepted
-    go accepted h = refl
-    go (refused number place) h = h
+accepts source scratch room = elim (refusalOf source scratch) as (λ x. unlessFits (length (textOf source)) room x ≡ accepted → x ≡ accepted)
+    [ accepted ↦ λ h. refl | refused number place ↦ λ h. h ]
 
 module _ {source scratch scratch′ text text₁ : List ℕ} {a : Compiled} (t : Translates source scratch scratch′ text text₁ a)
     (l : length text₁ ≡ length text) where

@@ -6,7 +6,7 @@ use Rattle.compiler.proofs.Language.{encodeCommands}
 use Rattle.code.specs.Generate.{commandsIn}
 use Rattle.compiler.specs.Repeats.{forms}
 use Rattle.compiler.specs.Walks.{Lies, Items, noItem, anItem, Counts}
-use Rattle.compiler.proofs.Trees.{second}
+use Rattle.compiler.proofs.Common.{second}
 
 -- of m items n are passed
 pub record CountPart (s : List ℕ) (end at n m : ℕ) : Type 0 where

@@ -1,58 +1,39 @@
 -- Names declared one after another.
 use Rattle.laws.proofs.Basics.{ℕ, _+_, _*_, _^_, _<_, _≤_, _≡_, refl, sym, ap, subst, _∙_, List, [], _∷_, length, getD, arith}
-use Rattle.compiler.proofs.Language.{Name, Scope, declared, inBlock, onFound, fault, declareAll, twice, encodeName, encodeNames, FineName}
-use Rattle.compiler.proofs.Language.{FineNames}
+use Rattle.compiler.proofs.Language.{Name, Scope, declared, inBlock, declareAll, twice, encodeName, encodeNames, FineName, FineNames}
 use Rattle.language.specs.Names as N
-use Rattle.compiler.proofs.Vocabulary.{Shows, Keeps, PushedName, Told, code, found, named, nameAt, State, Did, Faulted, Lies}
-use Rattle.compiler.proofs.Scoping.{keeps-all, keeps-then, keeps-lower, keeps-name, code-not, pushed-keeps, pushed-name}
-use Rattle.compiler.specs.Commands.{nothing, ReadyNames, Declares, Again}
-use Rattle.compiler.proofs.Done.{did-none, did-then, did-as, same-refl}
-use Rattle.compiler.proofs.Trees.{second}
+use Rattle.compiler.proofs.Vocabulary.{Shows, Keeps, PushedName, Told, code, found, nameAt, State, Did, Faulted, Lies, ReadyNames, Declares}
+use Rattle.compiler.proofs.Vocabulary.{Again}
+use Rattle.compiler.proofs.Common.{keeps-then, keeps-lower, keeps-name, name-there, means-unknown, pushed-keeps, pushed-name, did-none}
+use Rattle.compiler.proofs.Common.{did-then, did-as, same-refl, second, Rest, rest-all}
+use Rattle.compiler.specs.Commands.{nothing}
 
 pub again-not : {m place : ℕ} {st : State} → m ≡ 0 → Again m place st st
-unfolding found
-again-not {m} {place} {st} e = record { by = by }
-  where
-    by : (f : N.Found) → m ≡ found f → (t : List ℕ) → Did (onFound f [] (fault place 9)) nothing 0 t t st st
-    by N.unknown q t = did-none 0
-    by (N.known w) q t = absurd (code-not w (sym q ∙ e))
+again-not z = record { by = λ f e t. rw (means-unknown f e z) (did-none 0) }
 
 pub again-so : {m place : ℕ} {st r : State} → (m ≡ 0 → ⊥) → Faulted place 9 st r → Again m place st r
 unfolding found
-again-so {m} {place} {st} {r} n f = record { by = by }
-  where
-    by : (g : N.Found) → m ≡ found g → (t : List ℕ) → Did (onFound g [] (fault place 9)) nothing 0 t t st r
-    by N.unknown q t = absurd (n q)
-    by (N.known w) q t = f .by nothing t
+again-so n f = record { by = elim [ N.unknown ↦ λ q t. absurd (n q) | N.known w ↦ λ q t. f .by nothing t ] }
 
 -- ---- the loop
 
 module _ (text : List ℕ) {s₀ : List ℕ} {from end top height : ℕ} (st₀ : State) where
   pub record NamesPart (y : ReadyNames s₀ from end top height) (s : List ℕ) (at k : ℕ) (st : State) : Type 0 where
-    pub rest : List Name
+    pub left : Rest encodeNames (y .base) top s₀ s end at
     pub scope : Scope
-    pub lies : Lies s₀ at (encodeNames rest)
-    pub ends : end ≡ at + length (encodeNames rest)
-    pub starts : from ≤ at
     pub shows : Shows s (top + 2 * k) scope
-    pub keeps : Keeps (y .base) top s₀ s
-    pub many : k + length rest ≡ length (y .names)
-    pub fine : FineNames rest
-    pub same : declareAll (y .scope) height (y .names) ≡ declareAll scope (height + k) rest
-    pub finish : (t : List ℕ) (st′ : State) → Did (twice text scope (height + k) rest) nothing 0 t t st st′
+    pub many : k + length (left .rest) ≡ length (y .names)
+    pub fine : FineNames (left .rest)
+    pub same : declareAll (y .scope) height (y .names) ≡ declareAll scope (height + k) (left .rest)
+    pub finish : (t : List ℕ) (st′ : State) → Did (twice text scope (height + k) (left .rest)) nothing 0 t t st st′
         → Did (twice text (y .scope) height (y .names)) nothing 0 t t st₀ st′
 
   pub names-begin : (y : ReadyNames s₀ from end top height) → NamesPart y s₀ from 0 st₀
-  names-begin y =
-      let a : top ≡ top + 2 * 0 = omega arith in let b : height ≡ height + 0 = omega arith in
+  names-begin y = let a : top ≡ top + 2 * 0 = omega arith in let b : height ≡ height + 0 = omega arith in
       record {
-        rest = y .names;
+        left = rest-all (y .names) (y .lies) (y .ends) (y .above);
         scope = y .scope;
-        lies = y .lies;
-        ends = y .ends;
-        starts = omega arith;
         shows = rw a at (y .shows);
-        keeps = keeps-all;
         many = omega arith;
         fine = y .fine;
         same = cc;
@@ -75,7 +56,7 @@ is-names {s} {at} (n ∷ ns) h e l = record {
   name = n;
   more = ns;
   same = refl;
-  is = ap (λ (z : ℕ). named z (getD s (at + 1) 0)) (h .at 2 (omega arith)) ∙ ap (λ (z : ℕ). named (n .place) z) (h .at 1 (omega arith));
+  is = name-there s at (h .at 1 (omega arith)) (h .at 2 (omega arith));
   lies-more = second (0 ∷ n .width ∷ n .place ∷ 59 ∷ []) (encodeNames ns) (at + 4) h refl;
   ends = omega arith;
 }
@@ -90,19 +71,16 @@ module _ (text : List ℕ) {s₀ : List ℕ} {from end top height : ℕ} {st₀ 
       → Again m place st r → PushedName s s₁ (top + 2 * k) at x → x ≡ (height + k) * 4 + 1
       → (y : ReadyNames s₀ from end top height) → NamesPart text st₀ y s at k st → NamesPart text st₀ y s₁ (at + 4) (k + 1) r
   unfolding declareAll twice code FineNames
-  names-next {s} {s₁} {at} k {st} {r} l told ep ag pu ex y p =
-      let u = is-names (p .rest) (p .lies) (p .ends) l in let n : nameAt s at ≡ u .name = keeps-name (p .keeps) (omega arith) ∙ u .is in
+  names-next {s} {s₁} {at} k {st} {r} l told ep ag pu ex y p = let u = is-names (p .left .rest) (p .left .lies) (p .left .ends) l in
+      let n : nameAt s at ≡ u .name = keeps-name (p .left .keeps) (omega arith) ∙ u .is in
       let c : k + 1 + length (u .more) ≡ length (y .names) = omega (arith, ap length (u .same)) in let rm : top + 2 * k + 2 ≤ y .base = omega arith in
       let lg : y .base ≤ length s = omega arith in let w = N.local (height + k) in let hk : height + (k + 1) ≡ height + k + 1 = omega arith in
-      let tk : top + 2 * k + 2 ≡ top + 2 * (k + 1) = omega arith in let sc = p .scope in let sc′ = declared sc (u .name) w in
+      let tk : top + 2 * k + 2 ≡ top + 2 * (k + 1) = omega arith in let sc = p .scope in
+      let kept : Keeps (y .base) top s s₁ = keeps-lower (omega arith) (pushed-keeps (pu .pushed) rm lg) in let sc′ = declared sc (u .name) w in
       record {
-        rest = u .more;
+        left = record { rest = u .more; lies = u .lies-more; ends = u .ends; above = omega arith; keeps = keeps-then (p .left .keeps) kept };
         scope = sc′;
-        lies = u .lies-more;
-        ends = u .ends;
-        starts = omega arith;
         shows = rw tk at (rw n at (pushed-name pu rm lg w (p .shows) ex tt));
-        keeps = keeps-then (p .keeps) (keeps-lower (omega arith) (pushed-keeps (pu .pushed) rm lg));
         many = c;
         fine = subst FineNames (u .same) (p .fine) .1;
         same = cc;
@@ -115,10 +93,10 @@ module _ (text : List ℕ) {s₀ : List ℕ} {from end top height : ℕ} {st₀ 
       → Declares text s₀ s from end top height st₀ st
   unfolding declareAll twice encodeNames
   names-end {s} {at} k {st} l q = record {
-    by = λ y. let p = q y in let e = no-names (p .rest) (p .ends) l in let c : top + 2 * k ≡ top + 2 * length (y .names)
+    by = λ y. let p = q y in let e = no-names (p .left .rest) (p .left .ends) l in let c : top + 2 * k ≡ top + 2 * length (y .names)
         = omega (arith, ap length e) in record {
           shows = rw c at (rw (← (p .same ∙ ap (declareAll (p .scope) (height + k)) e)) at (p .shows));
-          keeps = p .keeps;
+          keeps = p .left .keeps;
           did = λ t. p .finish t st (rw e (did-none 0));
         };
   }
@@ -126,12 +104,7 @@ module _ (text : List ℕ) {s₀ : List ℕ} {from end top height : ℕ} {st₀ 
   pub names-fit : {s : List ℕ} {at : ℕ} (k : ℕ) {st : State} → at < end → (y : ReadyNames s₀ from end top height) → NamesPart text st₀ y s at k st
       → (top + 2 * k + 2 ≤ length s) × (height + k < 2 ^ 29) × (at < 2 ^ 32) × (top + 2 * k + 2 ≤ y .base) × FineName (nameAt s at)
   unfolding FineNames
-  names-fit k l y p =
-      let u = is-names (p .rest) (p .lies) (p .ends) l in
-      let c : k + 1 + length (u .more) ≡ length (y .names) = omega (arith, ap length (u .same)) in (
-        omega arith,
-        omega arith,
-        omega arith,
-        omega arith,
-        subst FineName (sym (keeps-name (p .keeps) (omega arith) ∙ u .is)) (subst FineNames (u .same) (p .fine) .0),
-      )
+  names-fit k l y p = let u = is-names (p .left .rest) (p .left .lies) (p .left .ends) l in
+      let c : k + 1 + length (u .more) ≡ length (y .names) = omega (arith, ap length (u .same)) in
+      let f = subst FineName (sym (keeps-name (p .left .keeps) (omega arith) ∙ u .is)) (subst FineNames (u .same) (p .fine) .0) in
+      (omega arith, omega arith, omega arith, omega arith, f)

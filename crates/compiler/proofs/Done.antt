@@ -1,16 +1,16 @@
 -- Laws of what is done: faults, items, heights and labels, one after another.
 use Rattle.laws.proofs.Basics.{ℕ, suc, _+_, _-_, _*_, _/_, _%_, _^_, _<_, _≤_, min, _≡_, refl, sym, ap, _∙_, List, [], _∷_, _++_, append-nil, true}
-use Rattle.laws.proofs.Basics.{false, cond, length, getD, ltb, arith, eq-eqb, ne-eqb, lt-ltb, le-ltb}
-use Rattle.laws.proofs.Cases.{Order, lt, ge, order}
+use Rattle.laws.proofs.Basics.{false, cond, length, getD, ltb, arith, eq-eqb, ne-eqb, lt-ltb, le-ltb, ltb-true, ltb-false}
+use Rattle.laws.proofs.Cases.{by-cases}
 use Rattle.items.specs.Item as I
-use Rattle.compiler.proofs.Language.{local, global, manifest, function, Found, unknown, known, onFound, Fault, fault, ofExpr, greatest}
-use Rattle.compiler.proofs.Language.{ofMeaning}
+use Rattle.compiler.proofs.Language.{Fault, fault, ofExpr, greatest}
 use Rattle.code.specs.Generate as G
 use Rattle.code.specs.Generate.{exprCode, exprLabels}
 use Rattle.writing.specs.Text.{Puts, line, lines}
 use Rattle.writing.proofs.Laws.{puts-none, puts-then, puts-as, lines-then}
-use Rattle.compiler.proofs.Vocabulary.{code, found, State, Here, Node, inside, NodeAt, key, least, AllFit, noFit, andFit, Code, Did, Emits}
-use Rattle.compiler.proofs.Vocabulary.{Reached, Faulted, Means, Fresh, LeavesTo, exprSays}
+use Rattle.compiler.proofs.Scoping.{means-unknown, means-local, means-global, means-manifest, means-function}
+use Rattle.compiler.proofs.Vocabulary.{State, Here, Node, inside, NodeAt, key, least, AllFit, noFit, andFit, Code, Did, Emits, Reached}
+use Rattle.compiler.proofs.Vocabulary.{Faulted, Means, Fresh, LeavesTo}
 
 -- ---- folds
 
@@ -37,6 +37,9 @@ nil-right (x ∷ a) b e = let z : length (x ∷ (a ++ b)) ≡ 0 = ap length e in
 pub fit-then : {a b : List Fault} → AllFit a → AllFit b → AllFit (a ++ b)
 fit-then noFit q = q
 fit-then (andFit p n r) q = andFit p n (fit-then r q)
+
+pub fault-fits : {place number : ℕ} → (place < 2 ^ 32) × (number < 32) → AllFit (fault place number)
+fault-fits f = andFit (f .0) (f .1) noFit
 
 pub fit-left : (a b : List Fault) → AllFit (a ++ b) → AllFit a
 fit-left [] b q = noFit
@@ -72,7 +75,7 @@ module _ {place number : ℕ} {st r : State} (fits : (place < 2 ^ 32) × (number
   faulted : r .worst ≡ least (st .worst) (fault place number) → Faulted place number st r
   faulted e = record {
     by = λ code t. record
-        { worst = e; fits = andFit (fits .0) (fits .1) noFit; few = omega arith; grows = omega arith; clean = λ n. absurd (fault-not n) };
+        { worst = e; fits = fault-fits fits; few = omega arith; grows = omega arith; clean = λ n. absurd (fault-not n) };
   }
 
   pub faulted-new : place * 32 + number < st .worst → r .worst ≡ place * 32 + number → Faulted place number st r
@@ -94,6 +97,10 @@ emits-then {xs} {ys} {hs} {ks} {st = st} f g = record {
   label = g .label ∙ f .label;
 }
 
+pub emits-none : {t : List ℕ} {st : State} → Emits [] [] t t st st
+unfolding lines greatest
+emits-none = record { text = puts-none; high = refl; worst = refl; label = refl }
+
 -- no faults
 pub emits-did : {xs : List I.Item} {hs : List ℕ} {t t′ : List ℕ} {st r : State} (code : ℕ → Code) → Emits xs hs t t′ st r
     → ((n : ℕ) → code n ≡ record { items = xs; heights = hs; labels = 0 }) → Did [] code 0 t t′ st r
@@ -106,10 +113,6 @@ emits-did {xs} {hs} {t} {t′} {st} code f e = record {
   clean = λ n. rw (e (st .label)) (record { text = f .text; high = f .high; label = omega arith });
 }
 
--- what is written behind code
-abbrev pub with : (ℕ → Code) → List I.Item → List ℕ → ℕ → Code
-with f xs hs n = record { items = f n .items ++ xs; heights = f n .heights ++ hs; labels = f n .labels }
-
 -- code behind code
 abbrev pub and : (ℕ → Code) → (ℕ → Code) → ℕ → Code
 and f g n = record {
@@ -118,71 +121,20 @@ and f g n = record {
   labels = f n .labels + g (n + f n .labels) .labels;
 }
 
-module _ {fs : List Fault} {f : ℕ → Code} {m : ℕ} {t t₁ t₂ : List ℕ} {st a b : State} (x : Did fs f m t t₁ st a) where
-  pub did-emit : {xs : List I.Item} {hs : List ℕ} → Emits xs hs t₁ t₂ a b → Did fs (with f xs hs) m t t₂ st b
-  did-emit {xs} {hs} e = record {
-    worst = e .worst ∙ x .worst;
-    fits = x .fits;
-    few = omega arith;
-    grows = omega arith;
-    clean = λ n. let w = x .clean n in record {
-      text = puts-as (puts-then (w .text) (e .text)) (lines-then (f (st .label) .items) xs);
-      high = rw (e .high, w .high, greatest-then (st .high) (f (st .label) .heights) hs);
-      label = e .label ∙ w .label;
-    };
-  }
-
-  pub did-then : {gs : List Fault} {g : ℕ → Code} {k : ℕ} → Did gs g k t₁ t₂ a b → Did (fs ++ gs) (and f g) (m + k) t t₂ st b
-  did-then {gs} {g} y = record {
-    worst = rw (y .worst, x .worst, least-then (st .worst) fs gs);
-    fits = fit-then (x .fits) (y .fits);
-    few = omega arith;
-    grows = omega arith;
-    clean = λ n. let w = x .clean (nil-left fs gs n) in let v = rw (w .label) at (y .clean (nil-right fs gs n)) in let l = f (st .label) .labels in
-        record {
-          text = puts-as (puts-then (w .text) (v .text)) (lines-then (f (st .label) .items) (g (st .label + l) .items));
-          high = rw (v .high, w .high, greatest-then (st .high) (f (st .label) .heights) (g (st .label + l) .heights));
-          label = omega arith;
-        };
-  }
-
--- items alone, behind and before
-module _ {fs : List Fault} {f : ℕ → Code} {m : ℕ} {t t₁ t₂ : List ℕ} {st a b : State} where
-  pub did-put : {xs : List I.Item} → Did fs f m t t₁ st a → Emits xs [] t₁ t₂ a b
-      → Did fs (λ n. record { items = f n .items ++ xs; heights = f n .heights; labels = f n .labels }) m t t₂ st b
-  unfolding greatest
-  did-put {xs} x e = record {
-    worst = e .worst ∙ x .worst;
-    fits = x .fits;
-    few = omega arith;
-    grows = omega arith;
-    clean = λ n. let w = x .clean n in record {
-      text = puts-as (puts-then (w .text) (e .text)) (lines-then (f (st .label) .items) xs);
-      high = e .high ∙ w .high;
-      label = e .label ∙ w .label;
-    };
-  }
-
-  pub did-after : {xs : List I.Item} {hs : List ℕ} → Emits xs hs t t₁ st a → Did fs f m t₁ t₂ a b
-      → Did fs (λ n. record { items = xs ++ f n .items; heights = hs ++ f n .heights; labels = f n .labels }) m t t₂ st b
-  did-after {xs} {hs} e x = record {
-    worst = rw (x .worst, e .worst);
-    fits = x .fits;
-    few = omega arith;
-    grows = omega arith;
-    clean = λ n. let w = rw (e .label) at (x .clean n) in
-        record {
-          text = puts-as (puts-then (e .text) (w .text)) (lines-then xs (f (st .label) .items));
-          high = rw (w .high, e .high, greatest-then (st .high) hs (f (st .label) .heights));
-          label = omega arith;
-        };
-  }
-
-pub did-none : (k : ℕ) {t : List ℕ} {st : State} → Did [] (λ n. record { items = []; heights = []; labels = 0 }) k t t st st
-unfolding least greatest lines
-did-none k =
-    record
-    { worst = refl; fits = noFit; few = omega arith; grows = omega arith; clean = λ n. record { text = puts-none; high = refl; label = omega arith } }
+pub did-then : {fs gs : List Fault} {f g : ℕ → Code} {m k : ℕ} {t t₁ t₂ : List ℕ} {st a b : State} → Did fs f m t t₁ st a → Did gs g k t₁ t₂ a b
+    → Did (fs ++ gs) (and f g) (m + k) t t₂ st b
+did-then {fs} {gs} {f} {g} {st = st} x y = record {
+  worst = rw (y .worst, x .worst, least-then (st .worst) fs gs);
+  fits = fit-then (x .fits) (y .fits);
+  few = omega arith;
+  grows = omega arith;
+  clean = λ n. let w = x .clean (nil-left fs gs n) in let v = rw (w .label) at (y .clean (nil-right fs gs n)) in let l = f (st .label) .labels in
+      record {
+        text = puts-as (puts-then (w .text) (v .text)) (lines-then (f (st .label) .items) (g (st .label + l) .items));
+        high = rw (v .high, w .high, greatest-then (st .high) (f (st .label) .heights) (g (st .label + l) .heights));
+        label = omega arith;
+      };
+}
 
 -- ---- the same, said otherwise
 
@@ -199,11 +151,7 @@ pub same-eq : {a b : List Fault} → a ≡ b → Same a b
 same-eq e = rw (← e) same-refl
 
 step-min : (k x : ℕ) → cond (ltb k x) k x ≡ min x k
-step-min k x = by (order k x)
-  where
-    by : Order k x → cond (ltb k x) k x ≡ min x k
-    by (lt h) = rw (lt-ltb k x h) (omega arith)
-    by (ge h) = rw (le-ltb k x h) (omega arith)
+step-min k x = by-cases (ltb k x) (λ e. let l = ltb-true k x e in rw e (omega arith)) (λ e. let l = ltb-false k x e in rw e (omega arith))
 
 least-min : (x k : ℕ) (a : List Fault) → least (min x k) a ≡ min (least x a) k
 unfolding least
@@ -215,16 +163,8 @@ least-min x k (f ∷ a) =
 least-swap : (x : ℕ) (a b : List Fault) → least x (a ++ b) ≡ least x (b ++ a)
 unfolding least
 least-swap x [] b = ap (least x) (sym (append-nil b))
-least-swap x (f ∷ a) b =
-    cc (
-      step-min (key f) x,
-      least-swap (min x (key f)) a b,
-      least-min x (key f) (b ++ a),
-      least-then x b a,
-      least-min (least x b) (key f) a,
-      step-min (key f) (least x b),
-      least-then x b (f ∷ a),
-    )
+least-swap x (f ∷ a) b = let k = key f in let s = step-min k x in let t = step-min k (least x b) in let m = least-min x k (b ++ a) in
+    cc (s, t, m, least-swap (min x k) a b, least-then x b a, least-min (least x b) k a, least-then x b (f ∷ a))
 
 pub same-swap : (a b : List Fault) → Same (a ++ b) (b ++ a)
 same-swap a b =
@@ -241,17 +181,7 @@ same-both {a} {b} {c} {d} p q = record {
   fits = λ f. fit-then (p .fits (fit-left a c f)) (q .fits (fit-right a c f));
 }
 
-pub did-as : {fs gs : List Fault} {f : ℕ → Code} (g : ℕ → Code) {m : ℕ} (k : ℕ) {t t′ : List ℕ} {st r : State} → Did fs f m t t′ st r → Same fs gs
-    → ((n : ℕ) → gs ≡ [] → f n ≡ g n) → m ≤ k → Did gs g k t t′ st r
-did-as g {m} k {t} {t′} {st} {r} x s e l = record {
-  worst = x .worst ∙ s .least (st .worst);
-  fits = s .fits (x .fits);
-  few = omega arith;
-  grows = x .grows;
-  clean = λ n. rw (e (st .label) n) at (x .clean (s .none n));
-}
-
--- the same at its first label
+-- at its first label
 pub did-at : {fs gs : List Fault} {f : ℕ → Code} (g : ℕ → Code) {m : ℕ} (k : ℕ) {t t′ : List ℕ} {st r : State} → Did fs f m t t′ st r → Same fs gs
     → (gs ≡ [] → f (st .label) ≡ g (st .label)) → m ≤ k → Did gs g k t t′ st r
 did-at g {m} k {t} {t′} {st} {r} x s e l = record {
@@ -261,6 +191,32 @@ did-at g {m} k {t} {t′} {st} {r} x s e l = record {
   grows = x .grows;
   clean = λ n. rw (e n) at (x .clean (s .none n));
 }
+
+pub did-as : {fs gs : List Fault} {f : ℕ → Code} (g : ℕ → Code) {m : ℕ} (k : ℕ) {t t′ : List ℕ} {st r : State} → Did fs f m t t′ st r → Same fs gs
+    → ((n : ℕ) → gs ≡ [] → f n ≡ g n) → m ≤ k → Did gs g k t t′ st r
+did-as g k {st = st} x s e l = did-at g k x s (e (st .label)) l
+
+pub code-is : {xs ys : List I.Item} {hs ks : List ℕ} {l m : ℕ} → xs ≡ ys → hs ≡ ks → l ≡ m
+    → _≡_ {A = Code} (record { items = xs; heights = hs; labels = l }) (record { items = ys; heights = ks; labels = m })
+code-is a b c = cc
+
+pub did-none : (k : ℕ) {t : List ℕ} {st : State} → Did [] (λ n. record { items = []; heights = []; labels = 0 }) k t t st st
+did-none k = did-as _ k (emits-did _ emits-none (λ n. refl)) same-refl (λ n e. refl) (omega arith)
+
+-- items and heights behind code, items alone behind it, and items and heights before it
+module _ {fs : List Fault} {f : ℕ → Code} {m : ℕ} {t t₁ t₂ : List ℕ} {st a b : State} {xs : List I.Item} where
+  pub did-emit : {hs : List ℕ} → Did fs f m t t₁ st a → Emits xs hs t₁ t₂ a b
+      → Did fs (λ n. record { items = f n .items ++ xs; heights = f n .heights ++ hs; labels = f n .labels }) m t t₂ st b
+  did-emit x e = did-as _ m (did-then x (emits-did _ e (λ n. refl))) (same-eq (append-nil fs)) (λ n c. code-is refl refl (omega arith)) (omega arith)
+
+  pub did-put : Did fs f m t t₁ st a → Emits xs [] t₁ t₂ a b
+      → Did fs (λ n. record { items = f n .items ++ xs; heights = f n .heights; labels = f n .labels }) m t t₂ st b
+  did-put x e = did-as _ m (did-emit x e) same-refl (λ n c. code-is refl (append-nil (f n .heights)) refl) (omega arith)
+
+  pub did-after : {hs : List ℕ} → Emits xs hs t t₁ st a → Did fs f m t₁ t₂ a b
+      → Did fs (λ n. record { items = xs ++ f n .items; heights = hs ++ f n .heights; labels = f n .labels }) m t t₂ st b
+  did-after e x = did-as _ m (did-then (emits-did _ e (λ n. refl)) x) same-refl (λ n c. let z : n + 0 ≡ n = omega arith in
+      rw z (code-is refl refl (omega arith))) (omega arith)
 
 -- after new labels
 pub did-fresh : {fs : List Fault} {f : ℕ → Code} {k m : ℕ} {t t′ : List ℕ} {st a b : State} → Fresh k st a → Did fs f m t t′ a b
@@ -280,67 +236,29 @@ leaves-wrong {to} {place} {t} e f = record { did = rw (eq-eqb to 0 e) (f .by _ t
 pub leaves-jump : {to place : ℕ} {t t′ : List ℕ} {st r : State} → (to ≡ 0 → ⊥) → Emits (G.JL to ∷ []) [] t t′ st r → LeavesTo to place t t′ st r
 leaves-jump {to} e f = record { did = rw (ne-eqb to 0 e) (emits-did _ f (λ n. refl)) }
 
-pub code-is : {xs ys : List I.Item} {hs ks : List ℕ} {l m : ℕ} → xs ≡ ys → hs ≡ ks → l ≡ m
-    → _≡_ {A = Code} (record { items = xs; heights = hs; labels = l }) (record { items = ys; heights = ks; labels = m })
-code-is a b c = cc
-
 -- ---- the value of a name
 
 module _ (place : ℕ) {m : ℕ} {t t′ : List ℕ} {st r : State} where
   pub value-1 : m % 4 ≡ 1 → Emits (I.instruction 0 true I.P (I.number false (m / 4)) ∷ []) [] t t′ st r → Means m place t t′ st r
-  unfolding found code exprCode ofExpr exprLabels
-  value-1 q f = record { by = by }
-    where
-      by : (strings h : ℕ) (w : Found) → m ≡ found w → Did (onFound w (fault place 8) []) (exprSays strings h (ofMeaning w)) 0 t t′ st r
-      by strings h unknown e = absurd (omega arith)
-      by strings h (known (local k)) e = let z : m / 4 ≡ k = omega arith in emits-did _ f (λ n. rw z)
-      by strings h (known (global k)) e = absurd (omega arith)
-      by strings h (known (manifest k)) e = absurd (omega arith)
-      by strings h (known (function k)) e = absurd (omega arith)
+  unfolding exprCode ofExpr exprLabels
+  value-1 q f = record { by = λ strings h w e. rw (means-local w e q) (emits-did _ f (λ n. refl)) }
 
   pub value-2 : m % 4 ≡ 2 → Emits (I.instruction 0 true I.G (I.number false (m / 4)) ∷ []) [] t t′ st r → Means m place t t′ st r
-  unfolding found code exprCode ofExpr exprLabels
-  value-2 q f = record { by = by }
-    where
-      by : (strings h : ℕ) (w : Found) → m ≡ found w → Did (onFound w (fault place 8) []) (exprSays strings h (ofMeaning w)) 0 t t′ st r
-      by strings h unknown e = absurd (omega arith)
-      by strings h (known (local k)) e = absurd (omega arith)
-      by strings h (known (global k)) e = let z : m / 4 ≡ k = omega arith in emits-did _ f (λ n. rw z)
-      by strings h (known (manifest k)) e = absurd (omega arith)
-      by strings h (known (function k)) e = absurd (omega arith)
+  unfolding exprCode ofExpr exprLabels
+  value-2 q f = record { by = λ strings h w e. rw (means-global w e q) (emits-did _ f (λ n. refl)) }
 
   pub value-3 : m % 4 ≡ 3 → Emits (I.instruction 0 false I.none (I.number false (m / 4)) ∷ []) [] t t′ st r → Means m place t t′ st r
-  unfolding found code exprCode ofExpr exprLabels
-  value-3 q f = record { by = by }
-    where
-      by : (strings h : ℕ) (w : Found) → m ≡ found w → Did (onFound w (fault place 8) []) (exprSays strings h (ofMeaning w)) 0 t t′ st r
-      by strings h unknown e = absurd (omega arith)
-      by strings h (known (local k)) e = absurd (omega arith)
-      by strings h (known (global k)) e = absurd (omega arith)
-      by strings h (known (manifest k)) e = let z : m / 4 ≡ k = omega arith in emits-did _ f (λ n. rw z)
-      by strings h (known (function k)) e = absurd (omega arith)
+  unfolding exprCode ofExpr exprLabels
+  value-3 q f = record { by = λ strings h w e. rw (means-manifest w e q) (emits-did _ f (λ n. refl)) }
 
   pub value-0 : m ≡ 0 → Faulted place 8 st r → t′ ≡ t → Means m place t t′ st r
-  unfolding found code exprCode
-  value-0 q f et = record { by = by }
-    where
-      by : (strings h : ℕ) (w : Found) → m ≡ found w → Did (onFound w (fault place 8) []) (exprSays strings h (ofMeaning w)) 0 t t′ st r
-      by strings h unknown e = rw et (f .by (exprSays strings h (ofMeaning unknown)) t)
-      by strings h (known (local k)) e = absurd (omega arith)
-      by strings h (known (global k)) e = absurd (omega arith)
-      by strings h (known (manifest k)) e = absurd (omega arith)
-      by strings h (known (function k)) e = absurd (omega arith)
+  value-0 q f et = record { by = λ strings h w e. rw (means-unknown w e q, et) (f .by _ t) }
 
   pub value-4 : (m % 4 ≡ 1 → ⊥) → (m % 4 ≡ 2 → ⊥) → (m % 4 ≡ 3 → ⊥) → (m ≡ 0 → ⊥) → Emits (G.to 0 (m / 4) ∷ []) [] t t′ st r → Means m place t t′ st r
-  unfolding found code exprCode ofExpr exprLabels
-  value-4 q1 q2 q3 q f = record { by = by }
-    where
-      by : (strings h : ℕ) (w : Found) → m ≡ found w → Did (onFound w (fault place 8) []) (exprSays strings h (ofMeaning w)) 0 t t′ st r
-      by strings h unknown e = absurd (q e)
-      by strings h (known (local k)) e = absurd (q1 (omega arith))
-      by strings h (known (global k)) e = absurd (q2 (omega arith))
-      by strings h (known (manifest k)) e = absurd (q3 (omega arith))
-      by strings h (known (function k)) e = let z : m / 4 ≡ suc k = omega arith in emits-did _ f (λ n. rw z)
+  unfolding exprCode ofExpr exprLabels
+  value-4 q1 q2 q3 q f = record {
+    by = λ strings h w e. let z : suc (m / 4 - 1) ≡ m / 4 = omega arith in rw (means-function w e q (omega arith)) (emits-did _ f (λ n. rw z));
+  }
 
 -- ---- places
 

@@ -1,19 +1,18 @@
 -- The labels of a list after INTO judged one after another, with those before each marked: what is refused in them.
 use Rattle.laws.proofs.Basics.{ℕ, _+_, _-_, _/_, _%_, _^_, _<_, _≤_, _≡_, refl, sym, ap, _∙_, List, [], _∷_, _++_, append-assoc, append-nil, Bool}
 use Rattle.laws.proofs.Basics.{true, false, cond, length, getD, set, replicate, length-set, length-replicate, eqb, arith, eqb-true, eqb-false}
+use Rattle.laws.proofs.Cases.{by-cases}
 use Rattle.language.specs.Tree as T
 use Rattle.compiler.proofs.Language.{Label, Commands, Scope, fault, Judged, good, refused, judge, judgedWord, CaseLabel, hasCase, hasDefault}
-use Rattle.compiler.proofs.Language.{labelsBefore, labelsOf, goodCase, doubledCase, doubledLabel, doubled}
+use Rattle.compiler.proofs.Language.{labelsBefore, labelsOf, goodCase, doubledCase, doubled}
 use Rattle.language.specs.Resolved as R
-use Rattle.compiler.proofs.Vocabulary.{Shows, State, Node, NodeAt, Did, Faulted}
-use Rattle.compiler.specs.declared.steps.Verdict.{Verdict}
+use Rattle.compiler.proofs.Vocabulary.{State, Node, NodeAt, Did, Faulted, Verdict, labelFaults, ReadyLabels, JudgesLabels}
 use Rattle.compiler.specs.declared.labels.Span.{Span}
 use Rattle.compiler.specs.Commands.{nothing}
 use Rattle.compiler.specs.Locals.{Says, fit, unfit, Judges, Blames}
-use Rattle.compiler.specs.Switching.{labelFaults, ReadyLabels, JudgesLabels}
-use Rattle.compiler.specs.Labels.{NextItem, LabelAt, aCase, aDefault, CommandAt, Spans, Listed, marks, flag, Marks, Notes, Marked, JudgesLabel}
+use Rattle.compiler.specs.Labels.{aCase, aDefault, NextItem, LabelAt, CommandAt, Spans, Listed, marks, flag, Marks, Notes, Marked, JudgesLabel}
 use Rattle.compiler.specs.Labels.{JudgesCommand, faultsAmong}
-use Rattle.compiler.proofs.Done.{did-none, did-then, did-as, same-refl}
+use Rattle.compiler.proofs.Common.{did-none, did-then, did-as, same-refl}
 use Rattle.compiler.proofs.Flags.{flag-none, flag-free, flag-here, flag-other, flag-taken, flag-beyond}
 use Rattle.compiler.proofs.Judging.{judged-word}
 use Rattle.compiler.proofs.Rows.{Left, left-all, left-next, left-end}
@@ -24,41 +23,28 @@ use Rattle.compiler.proofs.Switching.{list-of, own-labels}
 labels-then : (text : List ℕ) (sc : Scope) (ls ms : List Label) → labelsOf text sc (ls ++ ms) ≡ labelsOf text sc ls ++ labelsOf text sc ms
 unfolding labelsOf
 labels-then text sc [] ms = refl
-labels-then text sc (T.case p c ∷ ls) ms = ap (goodCase (judge text sc c)) (labels-then text sc ls ms) ∙ go (judge text sc c)
-  where
-    go : (j : Judged) → goodCase j (labelsOf text sc ls ++ labelsOf text sc ms) ≡ goodCase j (labelsOf text sc ls) ++ labelsOf text sc ms
-    go (good v) = refl
-    go (refused fs) = refl
+labels-then text sc (T.case p c ∷ ls) ms = let xs = labelsOf text sc ls in let ys = labelsOf text sc ms in
+    rw (labels-then text sc ls ms) (elim (judge text sc c) as (λ j. goodCase j
+    (xs ++ ys) ≡ goodCase j xs ++ ys) [ good v ↦ refl | refused fs ↦ refl ])
 labels-then text sc (T.default p ∷ ls) ms = rw (labels-then text sc ls ms)
 
-case-after-case : (v w : ℕ) (ls : List CaseLabel) → hasCase v (ls ++ (R.case w ∷ [])) ≡ cond (eqb v w) true (hasCase v ls)
+or-true : (b : Bool) → cond b true true ≡ true
+or-true = elim [ true ↦ refl | false ↦ refl ]
+
+or-false : (b : Bool) → cond b true false ≡ b
+or-false = elim [ true ↦ refl | false ↦ refl ]
+
+cases-then : (v : ℕ) (ls ms : List CaseLabel) → hasCase v (ls ++ ms) ≡ cond (hasCase v ls) true (hasCase v ms)
 unfolding hasCase
-case-after-case v w [] = refl
-case-after-case v w (R.case u ∷ ls) = rw (case-after-case v w ls, swap (eqb v u) (eqb v w))
-  where
-    swap : (a b : Bool) → cond a true (cond b true (hasCase v ls)) ≡ cond b true (cond a true (hasCase v ls))
-    swap true true = refl
-    swap true false = refl
-    swap false b = refl
-case-after-case v w (R.default ∷ ls) = case-after-case v w ls
+cases-then v [] ms = refl
+cases-then v (R.case u ∷ ls) ms = by-cases (eqb v u) (λ e. rw e) (λ e. rw (e, cases-then v ls ms))
+cases-then v (R.default ∷ ls) ms = cases-then v ls ms
 
-case-after-default : (v : ℕ) (ls : List CaseLabel) → hasCase v (ls ++ (R.default ∷ [])) ≡ hasCase v ls
-unfolding hasCase
-case-after-default v [] = refl
-case-after-default v (R.case u ∷ ls) = rw (case-after-default v ls)
-case-after-default v (R.default ∷ ls) = case-after-default v ls
-
-default-after-case : (w : ℕ) (ls : List CaseLabel) → hasDefault (ls ++ (R.case w ∷ [])) ≡ hasDefault ls
+defaults-then : (ls ms : List CaseLabel) → hasDefault (ls ++ ms) ≡ cond (hasDefault ls) true (hasDefault ms)
 unfolding hasDefault
-default-after-case w [] = refl
-default-after-case w (R.case u ∷ ls) = default-after-case w ls
-default-after-case w (R.default ∷ ls) = refl
-
-default-after-default : (ls : List CaseLabel) → hasDefault (ls ++ (R.default ∷ [])) ≡ true
-unfolding hasDefault
-default-after-default [] = refl
-default-after-default (R.case u ∷ ls) = default-after-default ls
-default-after-default (R.default ∷ ls) = refl
+defaults-then [] ms = refl
+defaults-then (R.case u ∷ ls) ms = defaults-then ls ms
+defaults-then (R.default ∷ ls) ms = refl
 
 -- ---- the marks
 
@@ -78,28 +64,25 @@ module _ {i place : ℕ} {seen seen′ : List ℕ} {st r : State} (n : Notes i p
 module _ {v place : ℕ} {seen seen′ : List ℕ} {st r : State} {ls : List CaseLabel} (n : Notes v place seen seen′ st r) (low : v < 65536)
     (m : Marks seen ls) where
   case-marks : Marks seen′ (ls ++ (R.case v ∷ []))
+  unfolding hasCase hasDefault
   case-marks = record {
     long = n .long ∙ m .long;
-    cases = λ w l. go w l (eqb w v) refl;
-    default = n .other 65536 (λ e. omega arith) ∙ m .default ∙ ap (λ (b : Bool). cond b 1 0) (sym (default-after-case v ls));
+    cases = λ w l. by-cases (eqb w v)
+        (λ e. ap (λ (k : ℕ). flag seen′ k) (eqb-true w v e) ∙ n .here (omega arith) ∙ rw (cases-then w ls (R.case v ∷ []), e, or-true))
+        (λ e. n .other w (eqb-false w v e) ∙ m .cases w l ∙ rw (cases-then w ls (R.case v ∷ []), e, or-false));
+    default = n .other 65536 (λ e. omega arith) ∙ m .default ∙ rw (defaults-then ls (R.case v ∷ []), or-false);
   }
-    where
-      there : (w : ℕ) (b : Bool) → eqb w v ≡ b → _≡_ {A = ℕ} (cond (cond b true (hasCase w ls)) 1 0) (cond (hasCase w (ls ++ (R.case v ∷ []))) 1 0)
-      there w b e = rw (case-after-case w v ls, e)
-
-      go : (w : ℕ) → w < 65536 → (b : Bool) → eqb w v ≡ b → flag seen′ w ≡ cond (hasCase w (ls ++ (R.case v ∷ []))) 1 0
-      go w l true e = ap (λ (k : ℕ). flag seen′ k) (eqb-true w v e) ∙ n .here (omega arith) ∙ there w true e
-      go w l false e = n .other w (eqb-false w v e) ∙ m .cases w l ∙ there w false e
 
   case-did : (t : List ℕ) → Did (cond (hasCase v ls) (fault place 12) []) nothing 0 t t st r
   case-did = note-did n (hasCase v ls) (omega arith) (m .cases v low)
 
 module _ {place : ℕ} {seen seen′ : List ℕ} {st r : State} {ls : List CaseLabel} (n : Notes 65536 place seen seen′ st r) (m : Marks seen ls) where
   default-marks : Marks seen′ (ls ++ (R.default ∷ []))
+  unfolding hasCase hasDefault
   default-marks = record {
     long = n .long ∙ m .long;
-    cases = λ w l. n .other w (λ e. omega arith) ∙ m .cases w l ∙ ap (λ (b : Bool). cond b 1 0) (sym (case-after-default w ls));
-    default = n .here (omega arith) ∙ ap (λ (b : Bool). cond b 1 0) (sym (default-after-default ls));
+    cases = λ w l. n .other w (λ e. omega arith) ∙ m .cases w l ∙ rw (cases-then w ls (R.default ∷ []), or-false);
+    default = n .here (omega arith) ∙ rw (defaults-then ls (R.default ∷ []), or-true);
   }
 
   default-did : (t : List ℕ) → Did (cond (hasDefault ls) (fault place 12) []) nothing 0 t t st r
@@ -117,11 +100,8 @@ note-first {i} {place} {x} {p} {seen = seen} l ex ep z e = record {
 
 pub note-again : {i place x p : ℕ} {seen : List ℕ} {st r : State} → x ≡ getD seen (i / 8) 0 → p ≡ 2 ^ (i % 8) → (x / p % 2 ≡ 0 → ⊥)
     → Faulted place 12 st r → Notes i place seen seen st r
-note-again {i} {seen = seen} ex ep n f =
+note-again {i} {seen = seen} ex ep n f = let there : flag seen i ≡ 0 → ⊥ = λ z. n (rw (ex, ep, z)) in
     record { long = refl; here = λ a. flag-taken seen i there; other = λ k n. refl; fresh = λ a z. absurd (there z); again = λ n. f }
-  where
-    there : flag seen i ≡ 0 → ⊥
-    there z = n (rw (ex, ep, z))
 
 pub note-none : {i place : ℕ} {seen : List ℕ} {st : State} → length seen ≤ i / 8 → Notes i place seen seen st st
 note-none {i} {seen = seen} l = record {
@@ -135,20 +115,15 @@ note-none {i} {seen = seen} l = record {
 -- ---- a label
 
 module _ (text : List ℕ) {s : List ℕ} {end : ℕ} (top : ℕ) (st r : State) (n : Node) (nd : NodeAt s end n) where
-  abbrev After : (seen seen′ : List ℕ) → Type 0
-  After seen seen′ = (sc : Scope) (before : List Label) (l : Label) → Shows s top sc → LabelAt s end l → Marks seen (labelsOf text sc before)
-      → Marked text sc (before ++ (l ∷ [])) (doubledLabel text sc (labelsOf text sc before) l) seen′ st r
-
   pub label-default : {seen seen′ : List ℕ} → (n .kind ≡ 28 → ⊥) → Notes 65536 (n .place) seen seen′ st r → JudgesLabel text s end top seen seen′ st r
   unfolding labelsOf
-  label-default {seen} {seen′} q w = record { by = go }
-    where
-      go : After seen seen′
-      go sc before (T.case p c) sh (aCase a e i en f) m = absurd (q (nd .kind ∙ a))
-      go sc before (T.default p) sh (aDefault a e) m = record {
-        marks = rw (labels-then text sc before (T.default p ∷ [])) (default-marks w m);
-        did = λ t. rw (nd .place ∙ e) at (default-did w m t);
-      }
+  label-default q w = record {
+    by = λ sc before l sh. elim [
+      | aCase a e h en f ↦ λ m. absurd (q (nd .kind ∙ a))
+      | aDefault {place = p} a e ↦ λ m. let z : n .place ≡ p = nd .place ∙ e in
+          record { marks = rw (labels-then text sc before (T.default p ∷ [])) (default-marks w m); did = λ t. rw z at (default-did w m t) }
+    ];
+  }
 
   -- a CASE, by what its constant is judged
   module _ {j : Verdict} (q : n .kind ≡ 28) (g : Judges text s (n .inner) top j) where
@@ -158,27 +133,26 @@ module _ (text : List ℕ) {s : List ℕ} {end : ℕ} (top : ℕ) (st r : State)
 
     case-by : {seen seen′ : List ℕ} → By seen seen′ → JudgesLabel text s end top seen seen′ st r
     unfolding labelsOf
-    case-by {seen} {seen′} f = record { by = go }
-      where
-        go : After seen seen′
-        go sc before (T.case p c) sh (aCase {lo = lo} a e i en fine) m =
-            let k = f p (labelsOf text sc before) (judge text sc c) (g .by sc lo c sh fine i (nd .inner ∙ en)) e (judged-word text sc c sh fine) m in
-            record { marks = rw (labels-then text sc before (T.case p c ∷ [])) (k .0); did = k .1 }
-        go sc before (T.default p) sh (aDefault a e) m = absurd (omega arith)
+    case-by f = record {
+      by = λ sc before l sh. elim [
+        | aCase {place = p} {lo} {c} a e i en fine ↦ λ m. let says = g .by sc lo c sh fine i (nd .inner ∙ en) in
+            let d = f p (labelsOf text sc before) (judge text sc c) says e (judged-word text sc c sh fine) m in
+            record { marks = rw (labels-then text sc before (T.case p c ∷ [])) (d .0); did = d .1 }
+        | aDefault a e ↦ λ m. absurd (omega arith)
+      ];
+    }
 
     pub label-refused : {seen : List ℕ} → (j .number ≡ 0 → ⊥) → Blames j st r → JudgesLabel text s end top seen seen st r
-    label-refused {seen} z b = case-by go
-      where
-        go : By seen seen
-        go p ls (good v) (fit w) e low m = absurd (z w)
-        go p ls (refused fs) (unfit a k w) e low m = (rw (append-nil ls) m, b .by (refused fs) (unfit a k w))
+    label-refused z b = case-by (λ p ls x. elim [
+      | fit w ↦ λ e low m. absurd (z w)
+      | unfit a k w ↦ λ e low m. (rw (append-nil ls) m, b .by (refused _) (unfit a k w))
+    ])
 
     pub label-case : {seen seen′ : List ℕ} → j .number ≡ 0 → Notes (j .word) (n .place) seen seen′ st r → JudgesLabel text s end top seen seen′ st r
-    label-case {seen} {seen′} z w = case-by go
-      where
-        go : By seen seen′
-        go p ls (good v) (fit k) e low m = (case-marks w low m, λ t. rw (nd .place ∙ e) at (case-did w low m t))
-        go p ls (refused fs) (unfit a k u) e low m = absurd (k (sym a ∙ z))
+    label-case z w = case-by (λ p ls x. elim [
+      | fit k ↦ λ e low m. (case-marks w low m, λ t. rw (nd .place ∙ e) at (case-did w low m t))
+      | unfit a k u ↦ λ e low m. absurd (k (sym a ∙ z))
+    ])
 
 -- ---- all labels of a command, and of all commands
 

@@ -1,14 +1,13 @@
 -- What `expr` asks can be had: the number 5 alone, with no names in scope. And what `table` and `doubled` ask: CASE 5 before an empty
 -- command, of which nothing is refused.
-use Rattle.laws.proofs.Basics.{ℕ, zero, suc, _+_, _^_, _<_, _≡_, refl, List, [], _∷_, false, length, getD, arith}
+use Rattle.laws.proofs.Basics.{ℕ, suc, _+_, _^_, _<_, _≡_, refl, List, [], _∷_, false, length, arith}
 use Rattle.laws.proofs.Cases.{contradiction}
 use Rattle.language.specs.Tree as T
 use Rattle.compiler.proofs.Language.{depth, outermost, judge, hasCase, labelsOf, doubled, encode, encodeCommands, encodeCommand, encodeLabels}
 use Rattle.compiler.proofs.Language.{encodeConstant, encodePositive, encodeUnlabelled, encodeRepeats, labelled, Fine, FineCommands}
-use Rattle.compiler.proofs.Language.{FineCommand, FineLabels, FineUnlabelled, FineRepeats}
+use Rattle.compiler.proofs.Language.{FineConstant, FineCommand, FineLabels, FineUnlabelled, FineRepeats}
 use Rattle.tree.specs.Encoding.{repeated}
-use Rattle.compiler.proofs.Vocabulary.{nothing, State, Here, ReadyE}
-use Rattle.compiler.specs.Switching.{labelFaults, ReadyLabels}
+use Rattle.compiler.proofs.Vocabulary.{nothing, State, Here, ReadyE, labelFaults, ReadyLabels}
 
 abbrev scratch : List ℕ
 scratch = 0 ∷ 0 ∷ 0 ∷ 5 ∷ 0 ∷ 60 ∷ []
@@ -26,7 +25,7 @@ ready = record {
   lo = 2;
   tree = T.number 0 5;
   scope = outermost;
-  lies = record { at = by };
+  lies = record { at = λ i l. let e : 2 + i ≡ suc (suc i) = omega arith in rw e };
   ends = refl;
   above = omega arith;
   long = omega arith;
@@ -40,19 +39,15 @@ ready = record {
   shallow = omega arith;
   fine = omega arith;
 }
-  where
-    by : (i : ℕ) → i < 4 → getD scratch (2 + i) 0 ≡ getD (0 ∷ 5 ∷ 0 ∷ 60 ∷ []) i 0
-    by zero l = refl
-    by (suc zero) l = refl
-    by (suc (suc zero)) l = refl
-    by (suc (suc (suc zero))) l = refl
-    by (suc (suc (suc (suc i)))) l = absurd (omega arith)
 
 abbrev five : T.Constant
 five = record { place = 5; minus = false; simple = T.literal 5 }
 
 abbrev list : T.Commands
 list = T.andCommand (T.command (T.case 0 five ∷ []) T.empty T.noRepeats) T.noCommands
+
+five-fine : FineConstant five
+five-fine = record { small = λ v e. let z : 5 ≡ v = cc in omega arith; place = λ n e q. contradiction cc }
 
 list-long : length (encodeCommands list) < 2 ^ 32
 unfolding encodeCommands encodeCommand encodeLabels encodeConstant encodePositive encodeUnlabelled encodeRepeats labelled repeated
@@ -69,22 +64,8 @@ ready-labels = record {
   above = omega arith;
   small = list-long;
   shows = nothing refl;
-  fine = (
-    (
-      (
-        record { small = λ v e. let z : 5 ≡ v = literal-is e in omega arith; place = λ n e q. contradiction cc },
-        tt,
-      ),
-      tt,
-      tt,
-      record { labels = λ e. omega arith; alone = λ e. refl },
-    ),
-    tt,
-  );
+  fine = (((five-fine, tt), tt, tt, record { labels = λ e. omega arith; alone = λ e. refl }), tt);
 }
-  where
-    literal-is : {v : ℕ} → T.literal 5 ≡ T.literal v → 5 ≡ v
-    literal-is e = cc
 
 pub nothing-refused : labelFaults [] outermost [] list ≡ []
 unfolding labelFaults doubled judge labelsOf hasCase

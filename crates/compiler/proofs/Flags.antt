@@ -1,6 +1,7 @@
 -- Flags, eight in an entry: what one more changes.
-use Rattle.laws.proofs.Basics.{ℕ, zero, suc, _+_, _/_, _%_, _^_, _<_, _≤_, zero-le, _≡_, refl, sym, ap, _∙_, List, Bool, true, false, length, getD}
-use Rattle.laws.proofs.Basics.{set, replicate, getD-replicate, List·getD-eq-default, getD-set-same, getD-set-other, eqb, arith, eqb-true, eqb-false}
+use Rattle.laws.proofs.Basics.{ℕ, zero, suc, _+_, _/_, _%_, _^_, _<_, _≤_, zero-le, _≡_, refl, sym, ap, _∙_, List, length, getD, set, replicate}
+use Rattle.laws.proofs.Basics.{getD-replicate, List·getD-eq-default, getD-set-same, getD-set-other, eqb, arith, eqb-true, eqb-false}
+use Rattle.laws.proofs.Cases.{by-cases}
 use native.Mathlib.Nat.{pow-suc, zero-div}
 use native.Mathlib.Numerals.{one-add}
 use lib.Pow.{shr-shr}
@@ -58,20 +59,13 @@ module _ (seen : List ℕ) (i : ℕ) {x p : ℕ} (ex : x ≡ getD seen (i / 8) 0
   flag-here l = ap (λ (y : ℕ). bit y (i % 8)) (rw (getD-set-same seen (i / 8) (x + p) 0 l, ep)) ∙ more-here x (i % 8) (cc)
 
   pub flag-other : i / 8 < length seen → (k : ℕ) → (k ≡ i → ⊥) → flag (set seen (i / 8) (x + p)) k ≡ flag seen k
-  flag-other l k n = go (eqb (k / 8) (i / 8)) refl
-    where
-      go : (b : Bool) → eqb (k / 8) (i / 8) ≡ b → flag (set seen (i / 8) (x + p)) k ≡ flag seen k
-      go true q = let j : k / 8 ≡ i / 8 = eqb-true (k / 8) (i / 8) q in
-          ap (λ (y : ℕ). bit (getD (set seen (i / 8) (x + p)) y 0) (k % 8)) j ∙ ap (λ (y : ℕ). bit y (k % 8))
-          (rw (getD-set-same seen (i / 8) (x + p) 0 l, ep)) ∙ more-other x (i % 8) (k % 8) (λ z. n (omega arith)) (cc) ∙ ap (λ (y : ℕ). bit y (k % 8))
-          (rw (ex, j))
-      go false q = rw (getD-set-other seen (i / 8) (k / 8) (x + p) 0 (eqb-false (k / 8) (i / 8) q))
+  flag-other l k n = by-cases (eqb (k / 8) (i / 8)) (λ q. let j : k / 8 ≡ i / 8 = eqb-true (k / 8) (i / 8) q in
+      ap (λ (y : ℕ). bit (getD (set seen (i / 8) (x + p)) y 0) (k % 8)) j ∙ ap (λ (y : ℕ). bit y (k % 8))
+      (rw (getD-set-same seen (i / 8) (x + p) 0 l, ep)) ∙ more-other x (i % 8) (k % 8) (λ z. n (omega arith)) (cc) ∙ ap (λ (y : ℕ). bit y (k % 8))
+      (rw (ex, j))) (λ q. rw (getD-set-other seen (i / 8) (k / 8) (x + p) 0 (eqb-false (k / 8) (i / 8) q)))
 
 pub flag-taken : (seen : List ℕ) (i : ℕ) → (flag seen i ≡ 0 → ⊥) → flag seen i ≡ 1
-flag-taken seen i n = go (getD seen (i / 8) 0 / 2 ^ (i % 8)) n
-  where
-    go : (y : ℕ) → (y % 2 ≡ 0 → ⊥) → y % 2 ≡ 1
-    go y n = omega arith
+flag-taken seen i n = omega arith
 
 -- ---- the last of eight
 
@@ -79,7 +73,5 @@ past : (j : ℕ) {k : ℕ} → j ≤ k → (k ≡ j → ⊥) → j + 1 ≤ k
 past j l n = omega arith
 
 pub last-of-eight : {k : ℕ} → k < 8 → (k ≡ 0 → ⊥) → (k ≡ 1 → ⊥) → (k ≡ 2 → ⊥) → (k ≡ 3 → ⊥) → (k ≡ 4 → ⊥) → (k ≡ 5 → ⊥) → (k ≡ 6 → ⊥) → 7 ≡ k
-last-of-eight {k} l n0 n1 n2 n3 n4 n5 n6 = at-last l (past 6 (past 5 (past 4 (past 3 (past 2 (past 1 (past 0 zero-le n0) n1) n2) n3) n4) n5) n6)
-  where
-    at-last : k < 8 → 7 ≤ k → 7 ≡ k
-    at-last l h = omega arith
+last-of-eight l n0 n1 n2 n3 n4 n5 n6 =
+    let h = past 6 (past 5 (past 4 (past 3 (past 2 (past 1 (past 0 zero-le n0) n1) n2) n3) n4) n5) n6 in omega (arith, l, h)

@@ -1,58 +1,25 @@
 -- A command by the kind of its record: what it is and where its parts stand.
-use Rattle.laws.proofs.Basics.{ℕ, _+_, _-_, _≤_, _≡_, refl, sym, subst, _∙_, List, [], _∷_, _++_, Bool, true, false, cond, Option, length, getD, eqb}
-use Rattle.laws.proofs.Basics.{arith, eqb-true}
-use Rattle.laws.proofs.Cases.{contradiction}
+use Rattle.laws.proofs.Basics.{ℕ, _+_, _-_, _≡_, refl, sym, subst, _∙_, List, [], _∷_, _++_, true, false, Option, length, getD, eqb, eqb-true}
+use Rattle.laws.proofs.Cases.{by-cases, contradiction}
 use Rattle.language.specs.Kinds as K
 use Rattle.language.specs.Kinds.{member}
 use Rattle.language.specs.Tree as T
-use Rattle.compiler.proofs.Language.{Name, Constant, Expression, Expressions, Command, Commands, Unlabelled, Locals, isCall, endsInCall}
-use Rattle.compiler.proofs.Language.{placeOf, FineUnlabelled, encode, encodeName, encodeBy, encodeCommand, encodeCommands, encodeExpressions}
-use Rattle.compiler.proofs.Language.{encodeSides, encodeFirst, encodeLocals, encodeUnlabelled, suffixedKind}
+use Rattle.compiler.proofs.Language.{Name, Constant, Expression, Expressions, Command, Unlabelled, isCall, endsInCall, placeOf, FineUnlabelled}
+use Rattle.compiler.proofs.Language.{encode, encodeName, encodeBy, encodeCommand, encodeCommands, encodeExpressions, encodeSides, encodeFirst}
+use Rattle.compiler.proofs.Language.{encodeLocals, encodeUnlabelled, suffixedKind}
 use Rattle.language.specs.Binding.{isGuard, isLeave}
 use Rattle.tree.specs.Encoding as O
-use Rattle.compiler.proofs.Vocabulary.{State, Here, Node, FinePlain, NodeAt, Lies}
-use Rattle.compiler.specs.Commands.{ReadyU}
-use Rattle.compiler.proofs.Trees.{kid, ends, value-is, place-is, size-is, kind-is}
-
--- ---- words that are one of a few
-
-pub data GuardWord : ℕ → Type 0 where
-  ifWord : GuardWord K.IF
-  unlessWord : GuardWord K.UNLESS
-  whileWord : GuardWord K.WHILE
-  untilWord : GuardWord K.UNTIL
-
-pub data LeaveWord : ℕ → Type 0 where
-  endcaseWord : LeaveWord K.ENDCASE
-  breakWord : LeaveWord K.BREAK
-  loopWord : LeaveWord K.LOOP
-  returnWord : LeaveWord K.RETURN
-  finishWord : LeaveWord K.FINISH
+use Rattle.compiler.proofs.Vocabulary.{State, Here, Node, FinePlain, NodeAt, Lies, ReadyU}
+use Rattle.compiler.proofs.Common.{kid, ends, value-is, place-is, size-is, kind-is, IsTwo, two-closed}
 
 -- one of a list, where each has what is wanted
 one-of : (P : ℕ → Type 0) (k a : ℕ) (others : List ℕ) → member k (a ∷ others) ≡ true → P a → (member k others ≡ true → P k) → P k
 unfolding member
-one-of P k a others m p f = go (eqb k a) refl m
-  where
-    go : (b : Bool) → eqb k a ≡ b → cond b true (member k others) ≡ true → P k
-    go true e q = subst P (sym (eqb-true k a e)) p
-    go false e q = f q
+one-of P k a others m p f = by-cases (eqb k a) (λ e. rw (eqb-true k a e) p) (λ e. f (rw e at m))
 
 none-of : {P : Type 0} (k : ℕ) → member k [] ≡ true → P
 unfolding member
 none-of k m = contradiction cc
-
-pub guard-word : (w : ℕ) → isGuard w ≡ true → GuardWord w
-unfolding isGuard
-guard-word w m =
-    one-of GuardWord w K.IF _ m ifWord (λ m. one-of GuardWord w K.UNLESS _ m unlessWord
-    (λ m. one-of GuardWord w K.WHILE _ m whileWord (λ m. one-of GuardWord w K.UNTIL _ m untilWord (none-of w))))
-
-pub leave-word : (w : ℕ) → isLeave w ≡ true → LeaveWord w
-unfolding isLeave
-leave-word w m =
-    one-of LeaveWord w K.ENDCASE _ m endcaseWord (λ m. one-of LeaveWord w K.BREAK _ m breakWord (λ m. one-of LeaveWord w K.LOOP _ m loopWord
-    (λ m. one-of LeaveWord w K.RETURN _ m returnWord (λ m. one-of LeaveWord w K.FINISH _ m finishWord (none-of w)))))
 
 -- ---- a command by its kind
 
@@ -75,54 +42,31 @@ module _ (s : List ℕ) (lo end : ℕ) where
     aFor : {n : Name} {e d : Expression} {k : Option Constant} {c : Command}
         → Lies s lo (encodeName n ++ (encode e ++ (encode d ++ (encodeBy k ++ encodeCommand c)))) → getD s (end - 3) 0 ≡ length (encodeBy k) → end
         ≡ lo + length (encodeName n ++ (encode e ++ (encode d ++ (encodeBy k ++ encodeCommand c)))) + 4 → Form K.FOR (T.for n e d k c)
-    aSwitch : {e : Expression} {cs : Commands} → Lies s lo (encode e ++ encodeCommands cs) → getD s (end - 3) 0 ≡ length (encode e)
-        → end ≡ lo + length (encode e ++ encodeCommands cs) + 4 → Form K.SWITCHON (T.switchon e cs)
+    aSwitch : {u : Unlabelled} → IsTwo encode encodeCommands T.switchon s lo end u → Form K.SWITCHON u
     aResult : {p : ℕ} {e : Expression} → getD s (end - 2) 0 ≡ p → Lies s lo (encode e) → end ≡ lo + length (encode e) + 4
         → Form K.RESULTIS (T.resultis p e)
-    aBlock : {ls : Locals} {cs : Commands} → Lies s lo (encodeLocals ls ++ encodeCommands cs) → getD s (end - 3) 0 ≡ length (encodeLocals ls)
-        → getD s (end - 4) 0 ≡ length (encodeLocals ls ++ encodeCommands cs) → end ≡ lo + length (encodeLocals ls ++ encodeCommands cs) + 4
-        → Form K.BEGIN (T.block ls cs)
+    aBlock : {u : Unlabelled} → IsTwo encodeLocals encodeCommands T.block s lo end u → Form K.BEGIN u
     anEndcase : {p : ℕ} → getD s (end - 2) 0 ≡ p → Form K.ENDCASE (T.leave K.ENDCASE p)
     aBreak : {p : ℕ} → getD s (end - 2) 0 ≡ p → Form K.BREAK (T.leave K.BREAK p)
     aLoop : {p : ℕ} → getD s (end - 2) 0 ≡ p → Form K.LOOP (T.leave K.LOOP p)
     aReturn : {p : ℕ} → getD s (end - 2) 0 ≡ p → Form K.RETURN (T.leave K.RETURN p)
     aFinish : {p : ℕ} → getD s (end - 2) 0 ≡ p → Form K.FINISH (T.leave K.FINISH p)
 
-  -- a command alone has neither labels nor REPEAT forms
-  pub form-small : {k : ℕ} {u : Unlabelled} → Form k u → k ≤ O.CALLED
-  form-small (anAssignment h v p z q) = omega arith
-  form-small (aCall h q c) = omega arith
-  form-small (aTest h q) = omega arith
-  form-small (anIf h q) = omega arith
-  form-small (anUnless h q) = omega arith
-  form-small (aWhile h q) = omega arith
-  form-small (anUntil h q) = omega arith
-  form-small (aFor h v q) = omega arith
-  form-small (aSwitch h v q) = omega arith
-  form-small (aResult p h q) = omega arith
-  form-small (aBlock h v z q) = omega arith
-  form-small (anEndcase h) = omega arith
-  form-small (aBreak h) = omega arith
-  form-small (aLoop h) = omega arith
-  form-small (aReturn h) = omega arith
-  form-small (aFinish h) = omega arith
-
   so : {k : ℕ} {u : Unlabelled} → getD s (end - 1) 0 ≡ k → Form k u → Form (getD s (end - 1) 0) u
   so q c = rw q c
 
-  guard-form : {w : ℕ} {e : Expression} {c : Command} → GuardWord w → Lies s lo (encode e ++ encodeCommand c)
+  guard-form : {w : ℕ} {e : Expression} {c : Command} → isGuard w ≡ true → Lies s lo (encode e ++ encodeCommand c)
       → end ≡ lo + length (encode e ++ encodeCommand c) + 4 → Form w (T.guarded w e c)
-  guard-form ifWord h q = anIf h q
-  guard-form unlessWord h q = anUnless h q
-  guard-form whileWord h q = aWhile h q
-  guard-form untilWord h q = anUntil h q
+  unfolding isGuard
+  guard-form {w} {e} {c} m h q = let P : ℕ → Type 0 = λ w. Form w (T.guarded w e c) in
+      one-of P w K.IF _ m (anIf h q) (λ m. one-of P w K.UNLESS _ m (anUnless h q)
+      (λ m. one-of P w K.WHILE _ m (aWhile h q) (λ m. one-of P w K.UNTIL _ m (anUntil h q) (none-of w))))
 
-  leave-form : {w p : ℕ} → LeaveWord w → getD s (end - 2) 0 ≡ p → Form w (T.leave w p)
-  leave-form endcaseWord h = anEndcase h
-  leave-form breakWord h = aBreak h
-  leave-form loopWord h = aLoop h
-  leave-form returnWord h = aReturn h
-  leave-form finishWord h = aFinish h
+  leave-form : {w p : ℕ} → isLeave w ≡ true → getD s (end - 2) 0 ≡ p → Form w (T.leave w p)
+  unfolding isLeave
+  leave-form {w} {p} m h = let P : ℕ → Type 0 = λ w. Form w (T.leave w p) in
+      one-of P w K.ENDCASE _ m (anEndcase h) (λ m. one-of P w K.BREAK _ m (aBreak h) (λ m. one-of P w K.LOOP _ m (aLoop h)
+      (λ m. one-of P w K.RETURN _ m (aReturn h) (λ m. one-of P w K.FINISH _ m (aFinish h) (none-of w)))))
 
   -- a call's record has its own kind
   called-kind : (e : Expression) → isCall e ≡ true → Lies s lo (encode e) → end ≡ lo + length (encode e) → getD s (end - 1) 0 ≡ O.CALLED
@@ -146,28 +90,26 @@ module _ (s : List ℕ) (lo end : ℕ) where
       (anAssignment (kid w v p K.ASSIGN h q) (value-is w v p K.ASSIGN h q) (place-is w v p K.ASSIGN h q) (size-is w v p K.ASSIGN h q)
       (ends w v p K.ASSIGN h q))
   form-of (T.callCommand e) f h q = so (called-kind e (f .0 .1) h q) (aCall h q (f .0 .1))
-  form-of (T.test e c d) f h q =
-      let w = encode e ++ (encodeCommand c ++ encodeCommand d) in
+  form-of (T.test e c d) f h q = let w = encode e ++ (encodeCommand c ++ encodeCommand d) in
       so (kind-is w 0 0 K.TEST h q) (aTest (kid w 0 0 K.TEST h q) (ends w 0 0 K.TEST h q))
-  form-of (T.guarded v e c) f h q =
-      let w = encode e ++ encodeCommand c in
-      so (kind-is w 0 0 v h q) (guard-form (guard-word v (f .0 .2)) (kid w 0 0 v h q) (ends w 0 0 v h q))
+  form-of (T.guarded v e c) f h q = let w = encode e ++ encodeCommand c in
+      so (kind-is w 0 0 v h q) (guard-form (f .0 .2) (kid w 0 0 v h q) (ends w 0 0 v h q))
   form-of (T.for n e d k c) f h q =
       let w = encodeName n ++ (encode e ++ (encode d ++ (encodeBy k ++ encodeCommand c))) in let v = length (encodeBy k) in
       so (kind-is w v 0 K.FOR h q) (aFor (kid w v 0 K.FOR h q) (value-is w v 0 K.FOR h q) (ends w v 0 K.FOR h q))
-  form-of (T.switchon e cs) f h q =
-      let w = encode e ++ encodeCommands cs in let v = length (encode e) in
-      so (kind-is w v 0 K.SWITCHON h q) (aSwitch (kid w v 0 K.SWITCHON h q) (value-is w v 0 K.SWITCHON h q) (ends w v 0 K.SWITCHON h q))
-  form-of (T.resultis p e) f h q =
-      so (kind-is (encode e) 0 p K.RESULTIS h q)
+  form-of (T.switchon e cs) f h q = so (kind-is (encode e ++ encodeCommands cs) (length (encode e)) 0 K.SWITCHON h q)
+      (aSwitch (two-closed encode encodeCommands T.switchon e cs 0 K.SWITCHON h q))
+  form-of (T.resultis p e) f h q = so (kind-is (encode e) 0 p K.RESULTIS h q)
       (aResult (place-is (encode e) 0 p K.RESULTIS h q) (kid (encode e) 0 p K.RESULTIS h q) (ends (encode e) 0 p K.RESULTIS h q))
-  form-of (T.leave w p) f h q = so (kind-is [] 0 p w h q) (leave-form (leave-word w (f .0)) (place-is [] 0 p w h q))
-  form-of (T.block ls cs) f h q =
-      let w = encodeLocals ls ++ encodeCommands cs in let v = length (encodeLocals ls) in
-      so (kind-is w v 0 K.BEGIN h q)
-      (aBlock (kid w v 0 K.BEGIN h q) (value-is w v 0 K.BEGIN h q) (size-is w v 0 K.BEGIN h q) (ends w v 0 K.BEGIN h q))
+  form-of (T.leave w p) f h q = so (kind-is [] 0 p w h q) (leave-form (f .0) (place-is [] 0 p w h q))
+  form-of (T.block ls cs) f h q = so (kind-is (encodeLocals ls ++ encodeCommands cs) (length (encodeLocals ls)) 0 K.BEGIN h q)
+      (aBlock (two-closed encodeLocals encodeCommands T.block ls cs 0 K.BEGIN h q))
 
 pub form-at : {s : List ℕ} {end k : ℕ} {here : Here} {st : State} (n : Node) → NodeAt s end n → n .kind ≡ k → (y : ReadyU s end here st)
     → Form s (y .lo) end k (y .tree)
 form-at {s} {end} n nd q y =
     subst (λ (k : ℕ). Form s (y .lo) end k (y .tree)) (sym (nd .kind) ∙ q) (form-of s (y .lo) end (y .tree) (y .fine) (y .lies) (y .ends))
+
+-- the same command has as many entries
+pub same-long : {u v : Unlabelled} → u ≡ v → length (encodeUnlabelled u) ≡ length (encodeUnlabelled v)
+same-long e = rw e

@@ -4,16 +4,13 @@ use Rattle.language.specs.Kinds as K
 use Rattle.language.specs.Tree as T
 use Rattle.compiler.proofs.Language.{Declaration, Program, encodeProgram}
 use Rattle.compiler.specs.Walks.{Lies}
-use Rattle.compiler.specs.Groups.{functionCount, CountsFunctions, CountsGroup}
-use Rattle.compiler.specs.Programs.{encodeDeclared, declaredWord}
-use Rattle.compiler.proofs.Lists.{First, first-of}
+use Rattle.compiler.proofs.Vocabulary.{functionCount, CountsFunctions, CountsGroup, encodeDeclared, declaredWord}
+use Rattle.compiler.proofs.Common.{First, first-of, Rest, rest-all, rest-next, keeps-all}
 
 pub program-step : (d : Declaration) (p : Program)
     → encodeProgram (d ∷ p) ≡ (length (encodeDeclared d) ∷ declaredWord d ∷ encodeDeclared d) ++ encodeProgram p
 unfolding encodeProgram
-program-step (T.globals is) p = refl
-program-step (T.manifests is) p = refl
-program-step (T.functions fs) p = refl
+program-step = elim [ T.globals is ↦ λ p. refl | T.manifests is ↦ λ p. refl | T.functions fs ↦ λ p. refl ]
 
 -- the declaration at the front
 abbrev pub IsDeclaration : (s : List ℕ) (at end : ℕ) → Program → Type 0
@@ -28,12 +25,8 @@ is-declaration {s} {at} (d ∷ p) h e l =
 
 pub no-declaration : {at end : ℕ} (p : Program) → end ≡ at + length (encodeProgram p) → end ≤ at → p ≡ []
 no-declaration [] e l = refl
-no-declaration (d ∷ p) e l =
-    absurd (omega (
-      arith,
-      ap length (program-step d p),
-      length-append (length (encodeDeclared d) ∷ declaredWord d ∷ encodeDeclared d) (encodeProgram p),
-    ))
+no-declaration (d ∷ p) e l = let a = ap length (program-step d p) in
+    absurd (omega (arith, a, length-append (length (encodeDeclared d) ∷ declaredWord d ∷ encodeDeclared d) (encodeProgram p)))
 
 -- the functions of one declaration
 abbrev ownCount : Declaration → ℕ
@@ -43,25 +36,21 @@ ownCount (T.functions fs) = length fs
 
 count-step : (d : Declaration) (p : Program) → functionCount (d ∷ p) ≡ ownCount d + functionCount p
 unfolding functionCount
-count-step (T.globals is) p = omega arith
-count-step (T.manifests is) p = omega arith
-count-step (T.functions fs) p = refl
+count-step = elim [ T.globals is ↦ λ p. omega arith | T.manifests is ↦ λ p. omega arith | T.functions fs ↦ λ p. refl ]
 
 count-none : functionCount [] ≡ 0
 unfolding functionCount
 count-none = refl
 
 pub record Part (s : List ℕ) (at end n : ℕ) (p : Program) : Type 0 where
-  pub rest : Program
-  pub lies : Lies s at (encodeProgram rest)
-  pub ends : end ≡ at + length (encodeProgram rest)
-  pub sum : n + functionCount rest ≡ functionCount p
+  pub left : Rest encodeProgram 0 0 s s end at
+  pub sum : n + functionCount (left .rest) ≡ functionCount p
 
 abbrev pub Counted : (s : List ℕ) (from end at n : ℕ) → Type 0
 Counted s from end at n = (p : Program) → Lies s from (encodeProgram p) → end ≡ from + length (encodeProgram p) → Part s at end n p
 
 pub counted-begin : {s : List ℕ} {from end : ℕ} → Counted s from end from 0
-counted-begin p h e = record { rest = p; lies = h; ends = e; sum = omega arith }
+counted-begin p h e = record { left = rest-all p h e (omega arith); sum = omega arith }
 
 module _ {s : List ℕ} {from end at n size word : ℕ} (l : at < end) (es : size ≡ getD s at 0) (ew : word ≡ getD s (at + 1) 0)
     (q : Counted s from end at n) where
@@ -69,35 +58,28 @@ module _ {s : List ℕ} {from end at n size word : ℕ} (l : at < end) (es : siz
   onwards : (m : ℕ)
       → ((d : Declaration) → word ≡ declaredWord d → Lies s (at + 2) (encodeDeclared d) → size ≡ length (encodeDeclared d) → m ≡ ownCount d)
       → Counted s from end (at + 2 + size) (n + m)
-  onwards m own p h e =
-      let c = q p h e in let u = is-declaration (c .rest) (c .lies) (c .ends) l in
-      let k : size ≡ length (encodeDeclared (u .part)) = es ∙ u .size-of in
+  onwards m own p h e = let c = q p h e in let u = is-declaration (c .left .rest) (c .left .lies) (c .left .ends) l in
       record {
-        rest = u .more;
-        lies = rw k (u .lies-more);
-        ends = omega arith;
-        sum = omega (arith, ap functionCount (u .same), count-step (u .part) (u .more), own (u .part) (ew ∙ u .word-of) (u .lies) k);
+        left = rest-next (c .left) u es refl keeps-all;
+        sum = omega (arith, ap functionCount (u .same), count-step (u .part) (u .more), own (u .part) (ew ∙ u .word-of) (u .lies) (es ∙ u .size-of));
       }
 
   pub counted-group : {m : ℕ} → word ≡ K.LET → CountsGroup s (at + 2) (at + 2 + size) m → Counted s from end (at + 2 + size) (n + m)
-  counted-group {m} e g = onwards m by
-    where
-      by : (d : Declaration) → word ≡ declaredWord d → Lies s (at + 2) (encodeDeclared d) → size ≡ length (encodeDeclared d) → m ≡ ownCount d
-      by (T.globals is) w h k = absurd (omega arith)
-      by (T.manifests is) w h k = absurd (omega arith)
-      by (T.functions fs) w h k = g .by fs h (omega arith)
+  counted-group {m} e g = onwards m (elim [
+    | T.globals is ↦ λ w h k. absurd (omega arith)
+    | T.manifests is ↦ λ w h k. absurd (omega arith)
+    | T.functions fs ↦ λ w h k. g .by fs h (omega arith)
+  ])
 
   pub counted-other : (word ≡ K.LET → ⊥) → Counted s from end (at + 2 + size) n
-  counted-other e p h k = subst (λ (z : ℕ). Part s (at + 2 + size) end z p) (omega arith) (onwards 0 by p h k)
-    where
-      by : (d : Declaration) → word ≡ declaredWord d → Lies s (at + 2) (encodeDeclared d) → size ≡ length (encodeDeclared d) → 0 ≡ ownCount d
-      by (T.globals is) w h k = refl
-      by (T.manifests is) w h k = refl
-      by (T.functions fs) w h k = absurd (e w)
+  counted-other e p h k = subst (λ (z : ℕ). Part s (at + 2 + size) end z p) (omega arith) (onwards 0
+      (elim [ T.globals is ↦ λ w h k. refl | T.manifests is ↦ λ w h k. refl | T.functions fs ↦ λ w h k. absurd (e w) ]) p h k)
 
   -- a group never reaches past the end
   pub counted-past : end < at + 2 + size → Counted s from end (at + 2 + size) n
-  counted-past g p h e = let c = q p h e in let u = is-declaration (c .rest) (c .lies) (c .ends) l in absurd (omega arith)
+  counted-past g p h e = let c = q p h e in let u = is-declaration (c .left .rest) (c .left .lies) (c .left .ends) l in absurd (omega arith)
 
 pub counted-end : {s : List ℕ} {from end at n : ℕ} → end ≤ at → Counted s from end at n → CountsFunctions s from end n
-counted-end l q = record { by = λ p h e. let c = q p h e in omega (arith, ap functionCount (no-declaration (c .rest) (c .ends) l), count-none) }
+counted-end l q = record {
+  by = λ p h e. let c = q p h e in let z = no-declaration (c .left .rest) (c .left .ends) l in omega (arith, ap functionCount z, count-none);
+}

@@ -6,13 +6,10 @@ use Rattle.language.specs.Kinds as K
 use Rattle.compiler.proofs.Language.{Function, opened, declareAll, heightsOf, encodeName, encodeNames, encodeBody, bodyWord}
 use Rattle.language.specs.Program.{inside, bodyOf, functionFaults, resolved}
 use Rattle.code.specs.Generate as G
-use Rattle.compiler.proofs.Vocabulary.{Keeps, Pushed, State, Here, Node, NodeAt, Emits, Reached, Lies}
-use Rattle.compiler.specs.Commands.{ReadyNames, Declares}
-use Rattle.compiler.specs.Groups.{encodeFunction, ReadyBody, GaveBody, functionSays, ReadyF, GaveF}
-use Rattle.compiler.proofs.Scoping.{keeps-then, keeps-lower, pushed-keeps, pushed-mark}
-use Rattle.compiler.proofs.Done.{did-then, did-put, did-after, did-as, same-refl, code-is}
-use Rattle.compiler.proofs.Trees.{first, second, keeps-lies, ends, kid, size-is, value-is, kind-is}
-use Rattle.compiler.proofs.Parts.{moved}
+use Rattle.compiler.proofs.Vocabulary.{Keeps, Pushed, State, Here, Node, NodeAt, Emits, Reached, Lies, ReadyNames, Declares, encodeFunction}
+use Rattle.compiler.proofs.Vocabulary.{ReadyBody, GaveBody, functionSays, ReadyF, GaveF}
+use Rattle.compiler.proofs.Common.{ready-names, keeps-then, keeps-lower, pushed-keeps, pushed-mark, did-then, did-put, did-after, did-as}
+use Rattle.compiler.proofs.Common.{same-refl, code-is, first, second, keeps-lies, ends, kid, size-is, value-is, kind-is, moved}
 use Rattle.compiler.proofs.Judging.{names-long}
 
 -- ---- where its parts stand
@@ -27,14 +24,10 @@ pub record Parted (s : List ℕ) (lo end : ℕ) (f : Function) : Type 0 where
 
 pub parted : {s : List ℕ} {lo end : ℕ} (f : Function) → Lies s lo (encodeFunction f) → end ≡ lo + length (encodeFunction f) → Parted s lo end f
 unfolding encodeName
-parted {s} {lo} f h e =
-    let name : List ℕ = encodeName (f .name) in let names = encodeNames (f .parameters) in let body = encodeBody (f .body) in
+parted {s} {lo} f h e = let name : List ℕ = encodeName (f .name) in let names = encodeNames (f .parameters) in let body = encodeBody (f .body) in
     let w = name ++ (names ++ body) in let v = length names in let k = bodyWord (f .body) in let inner = kid w v 0 k h e in let rest = second name
-    (names ++ body) (lo + 4) inner refl in let z : length w ≡ 4 + length names + length body = omega (
-      arith,
-      length-append name (names ++ body),
-      length-append names body,
-    ) in
+    (names ++ body) (lo + 4) inner refl in
+    let z : length w ≡ 4 + length names + length body = omega (arith, length-append name (names ++ body), length-append names body) in
     record {
       lies-names = first names body rest;
       lies-body = second names body (lo + 4 + length names) rest refl;
@@ -58,42 +51,21 @@ module _ {s : List ℕ} {end : ℕ} {here : Here} {st : State} (n : Node) (nd : 
   pub function-parts : (y : ReadyF s end here st) → Parted s (y .lo) end (y .tree)
   function-parts y = parted (y .tree) (y .lies) (y .ends)
 
-  pub function-start : (y : ReadyF s end here st) → n .start ≡ y .lo
-  function-start y = let u = function-parts y in omega arith
-
-  pub function-many : (y : ReadyF s end here st) → n .value / 4 ≡ length (y .tree .parameters)
-  function-many y = let u = function-parts y in omega (arith, names-long (y .tree .parameters))
-
-  pub function-length : (y : ReadyF s end here st)
-      → length (encodeFunction (y .tree)) ≡ 8 + 4 * length (y .tree .parameters) + length (encodeBody (y .tree .body))
-  function-length y = omega (arith, function-parts y .ends, names-long (y .tree .parameters))
+  pub function-places : (y : ReadyF s end here st) → (n .start ≡ y .lo) × (n .value / 4 ≡ length (y .tree .parameters))
+      × (length (encodeFunction (y .tree)) ≡ 8 + 4 * length (y .tree .parameters) + length (encodeBody (y .tree .body)))
+  function-places y = let u = function-parts y in let m = names-long (y .tree .parameters) in (omega arith, omega arith, omega (arith, u .ends))
 
   -- room for the mark and the parameters
   pub function-room : (y : ReadyF s end here st)
       → (here .top + 2 ≤ length s) × (here .top + 2 ≤ y .base) × (here .top + 2 + 2 * (n .value / 4) ≤ y .base) × (y .base < 2 ^ 32)
-  function-room y =
-      let z = function-length y in let k = function-many y in
-      (omega arith, omega arith, omega arith, omega arith)
+  function-room y = let z = function-places y in (omega arith, omega arith, omega arith, omega arith)
 
   module _ {s₁ : List ℕ} (pu : Pushed s s₁ (here .top) 0 0) where
     abbrev pub function-names : ReadyF s end here st → ReadyNames s₁ (n .start + 4) (n .start + 4 + n .value) (here .top + 2) 2
-    function-names y =
-        let u = function-parts y in let r = function-room y in let k = pushed-keeps pu (r .1) (y .long) in
-        let z = function-length y in let q = function-start y in
-        record {
-          base = y .base;
-          scope = opened (y .scope);
-          names = y .tree .parameters;
-          lies = rw q (keeps-lies k (omega arith) (u .lies-names));
-          ends = omega arith;
-          above = omega arith;
-          long = omega arith;
-          small = omega arith;
-          shows = pushed-mark pu (r .1) (y .long) (y .shows) refl;
-          room = omega arith;
-          heights = omega arith;
-          fine = y .fine .parameters;
-        }
+    function-names y = let u = function-parts y in let r = function-room y in let k = pushed-keeps pu (r .1) (y .long) in
+        let z = function-places y in
+        ready-names (y .base) (opened (y .scope)) (y .tree .parameters) (rw (z .0) (keeps-lies k (omega arith) (u .lies-names)))
+        (pushed-mark pu (r .1) (y .long) (y .shows) refl) (y .fine .parameters) (omega arith)
 
     module _ (text : List ℕ) {label : ℕ} {s₂ t t₁ : List ℕ} {a b c : State} (em : Emits (I.label label ∷ []) [] t t₁ st a)
         (de : Declares text s₁ s₂ (n .start + 4) (n .start + 4 + n .value) (here .top + 2) 2 a b) (re : Reached (2 + n .value / 4) b c) where
@@ -104,12 +76,11 @@ module _ {s : List ℕ} {end : ℕ} {here : Here} {st : State} (n : Node) (nd : 
       function-label y = let d = de .by (function-names y) .did t₁ in omega (arith, re .by t₁ .label)
 
       abbrev pub function-body : ReadyF s end here st → ReadyBody s₂ (n .inner) (within n here) c (n .kind)
-      function-body y =
-          let u = function-parts y in let d = de .by (function-names y) in let k = function-keeps y in let z = function-length y in
-          let m = function-many y in let l = function-label y in
+      function-body y = let u = function-parts y in let d = de .by (function-names y) in let k = function-keeps y in let z = function-places y in
+          let l = function-label y in
           record {
             ready =
-                moved y k (declareAll (opened (y .scope)) 2 (y .tree .parameters)) (u .lies-body) (rw m (d .shows)) (omega arith) (omega arith)
+                moved y k (declareAll (opened (y .scope)) 2 (y .tree .parameters)) (u .lies-body) (rw (z .1) (d .shows)) (omega arith) (omega arith)
                 (y .fine .body);
             word-is = nd .kind ∙ u .kind-of;
             routine-is = refl;
@@ -120,13 +91,13 @@ module _ {s : List ℕ} {end : ℕ} {here : Here} {st : State} (n : Node) (nd : 
       unfolding functionFaults resolved heightsOf
       function-gave g pt = record {
         by = λ y. let f = y .tree in let sc = inside (y .scope) f in let w = de .by (function-names y) in let x = g .by (function-body y) in
-            let body = rw (function-many y) at (x .did) in let top = rw (function-many y) at (re .by t₁) in let h = 2 + length (f .parameters) in
+            let body = rw (function-places y .1) at (x .did) in let top = rw (function-places y .1) at (re .by t₁) in
+            let h = 2 + length (f .parameters) in
             let rb = bodyOf text sc h (f .body) in
             record {
               keeps = keeps-then (function-keeps y) (keeps-lower (omega arith) (x .keeps));
-              did =
-                  did-as (functionSays text (here .strings) label (y .scope) f) _
+              did = did-as (functionSays text (here .strings) label (y .scope) f) _
                   (did-after em (did-then (w .did t₁) (did-after top (did-put body pt)))) same-refl (λ i e. let q : i + 0 ≡ i = omega arith in
-                  code-is (rw q) refl (omega arith)) (omega (arith, function-length y));
+                  code-is (rw q) refl (omega arith)) (omega (arith, function-places y .2));
             };
       }

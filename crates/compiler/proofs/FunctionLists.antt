@@ -1,20 +1,18 @@
 -- The functions of a group, one after another: what each adds to the faults, the code and the heights, and the loop.
-use Rattle.laws.proofs.Basics.{ℕ, suc, _+_, _*_, _^_, _<_, _≤_, _≡_, refl, sym, ap, subst, _∙_, List, [], _∷_, _++_, append-assoc, append-nil, Bool}
-use Rattle.laws.proofs.Basics.{true, false, cond, length, getD, length-append, ltb, arith, lt-ltb, le-ltb}
+use Rattle.laws.proofs.Basics.{ℕ, suc, _+_, _*_, _^_, _<_, _≤_, _≡_, refl, sym, ap, subst, _∙_, List, [], _∷_, _++_, append-assoc, append-nil, cond}
+use Rattle.laws.proofs.Basics.{length, getD, length-append, ltb, arith, lt-ltb, le-ltb}
+use Rattle.laws.proofs.Cases.{either}
 use Rattle.items.specs.Item as I
 use Rattle.compiler.proofs.Language.{Function, Scope, lookup, Fault, fault, Fun, Start, heightsOf, greatest, largestHeight, FineFunctions}
 use Rattle.compiler.proofs.Language.{functionsDepth, encodeName, encodeNames, encodeBody, bodyWord, encodeFunctions}
 use Rattle.language.specs.Program.{Named, startOf, withFunction, resolved, functionFaults, groupFaults, groupOf, heightFaults}
 use Rattle.language.specs.Whole.{funs}
 use Rattle.code.specs.Generate as G
-use Rattle.compiler.proofs.Vocabulary.{Keeps, Did, Code, least, AllFit, noFit, andFit, Lies, State, Here}
-use Rattle.compiler.specs.Groups.{encodeFunction, functionDepth, FineF, FineFs, functionSays, functionsSays, innerLabels, ReadyF, GaveF}
-use Rattle.compiler.specs.Groups.{ReadyFs, GaveFs}
-use Rattle.compiler.specs.Programs.{Yields}
+use Rattle.compiler.proofs.Vocabulary.{Did, Code, least, AllFit, noFit, Lies, State, Here, encodeFunction, functionDepth, FineF, FineFs}
+use Rattle.compiler.proofs.Vocabulary.{functionSays, functionsSays, innerLabels, ReadyF, GaveF, ReadyFs, GaveFs, Yields}
 use Rattle.compiler.specs.declared.program.Done.{Done}
-use Rattle.compiler.proofs.Scoping.{keeps-all, keeps-then, keeps-shows}
-use Rattle.compiler.proofs.Done.{least-then, fit-then, nil-left, nil-right, did-none, did-then, did-as, same-refl, code-is}
-use Rattle.compiler.proofs.Trees.{keeps-lies}
+use Rattle.compiler.proofs.Common.{and, keeps-shows, least-then, fit-then, fault-fits, nil-left, nil-right, did-none, did-then, did-as}
+use Rattle.compiler.proofs.Common.{same-refl, code-is, keeps-lies, Rest, rest-all, taken-sizes, rest-next}
 use Rattle.compiler.proofs.GroupLaws.{IsFunction, is-function, no-function}
 
 -- ---- the least 16
@@ -26,11 +24,7 @@ module _ (tall high place : ℕ) where
 
   pub tall-old : tall ≤ place * 32 + 16 → tall ≡ least tall (cond (ltb 8192 high) (fault place 16) [])
   unfolding least
-  tall-old l = by (ltb 8192 high)
-    where
-      by : (b : Bool) → tall ≡ least tall (cond b (fault place 16) [])
-      by true = rw (le-ltb (place * 32 + 16) tall l)
-      by false = refl
+  tall-old l = either (λ (fs : List Fault). tall ≡ least tall fs) (ltb 8192 high) (λ e. rw (le-ltb (place * 32 + 16) tall l)) (λ e. refl)
 
   pub tall-low : high ≤ 8192 → tall ≡ least tall (cond (ltb 8192 high) (fault place 16) [])
   unfolding least
@@ -51,9 +45,7 @@ funs-long (g ∷ gs) = ap suc (funs-long gs)
 pub heights-then : (gs hs : List Named) → heightFaults (gs ++ hs) ≡ heightFaults gs ++ heightFaults hs
 unfolding heightFaults
 heights-then [] hs = refl
-heights-then (g ∷ gs) hs =
-    let a = cond (ltb 8192 (largestHeight (g .fun))) (fault (g .name .place) 16) [] in
-    simp (heights-then gs hs, append-assoc)
+heights-then (g ∷ gs) hs = let a = cond (ltb 8192 (largestHeight (g .fun))) (fault (g .name .place) 16) [] in simp (heights-then gs hs, append-assoc)
 
 labels-then : (fs gs : List Fun) → innerLabels (fs ++ gs) ≡ innerLabels fs + innerLabels gs
 unfolding innerLabels
@@ -63,21 +55,13 @@ labels-then (f ∷ fs) gs = omega (arith, labels-then fs gs)
 code-then : (strings l n : ℕ) (fs gs : List Fun) {k m : ℕ} → k ≡ l + length fs → m ≡ n + innerLabels fs
     → G.functionsCode strings l n (fs ++ gs) ≡ G.functionsCode strings l n fs ++ G.functionsCode strings k m gs
 unfolding G.functionsCode innerLabels
-code-then strings l n [] gs {k} {m} a b =
-    let p : l ≡ k = omega arith in let q : n ≡ m = omega arith in
-    rw (p, q)
-code-then strings l n (f ∷ fs) gs {k} {m} a b =
-    let c = G.bodyCode strings (2 + f .parameters) n (f .body) in let n′ = n + G.bodyLabels (f .body) in
+code-then strings l n [] gs {k} {m} a b = let p : l ≡ k = omega arith in let q : n ≡ m = omega arith in rw (p, q)
+code-then strings l n (f ∷ fs) gs {k} {m} a b = let c = G.bodyCode strings (2 + f .parameters) n (f .body) in let n′ = n + G.bodyLabels (f .body) in
     ap (λ (z : List I.Item). I.label l ∷ c ++ (G.X 4 ∷ z)) (code-then strings (suc l) n′ fs gs (omega arith) (omega arith)) ∙ ap
     (λ (z : List I.Item). I.label l ∷ z) (sym (append-assoc c (G.X 4 ∷ G.functionsCode strings (suc l) n′ fs) (G.functionsCode strings k m gs)))
 
-pub says-then : (strings l n : ℕ) (gs hs : List Named) {k : ℕ} → k ≡ l + length gs → let a = functionsSays strings l (funs gs) n in
-    _≡_ {A = Code} (record {
-      items = a .items ++ G.functionsCode strings k (n + innerLabels (funs gs)) (funs hs);
-      heights = [];
-      labels = innerLabels (funs gs) + innerLabels (funs hs);
-    })
-    (functionsSays strings l (funs (gs ++ hs)) n)
+pub says-then : (strings l n : ℕ) (gs hs : List Named) {k : ℕ} → k ≡ l + length gs
+    → and (functionsSays strings l (funs gs)) (functionsSays strings k (funs hs)) n ≡ functionsSays strings l (funs (gs ++ hs)) n
 says-then strings l n gs hs {k} e = let f = funs gs in let h = funs hs in
     code-is (sym (ap (G.functionsCode strings l n) (funs-then gs hs) ∙ code-then strings l n f h (omega (arith, funs-long gs)) refl)) refl
     (sym (ap innerLabels (funs-then gs hs) ∙ labels-then f h))
@@ -94,19 +78,14 @@ pub yields-then : {strings l : ℕ} (k : ℕ) {fs fs′ : List Fault} {gs gs′ 
 yields-then {strings} {l} k {fs} {fs′} {gs} {gs′} {m} {m′} {t} {t₁} {t₂} {d} {d₁} {d₂} e x y = record {
   did = did-as (functionsSays strings l (funs (gs ++ gs′))) (m + m′) (did-then (x .did) (y .did)) same-refl (λ n c. says-then strings l n gs gs′ e)
       (omega arith);
-  tall = λ c. rw (
-    y .tall (nil-right fs fs′ c),
-    x .tall (nil-left fs fs′ c),
-    least-then (d .tall) (heightFaults gs) (heightFaults gs′),
-    heights-then gs gs′,
-  );
+  tall = λ c. let i = y .tall (nil-right fs fs′ c) in let j = x .tall (nil-left fs fs′ c) in
+      rw (i, j, least-then (d .tall) (heightFaults gs) (heightFaults gs′), heights-then gs gs′);
   fits = subst AllFit (sym (heights-then gs gs′)) (fit-then (x .fits) (y .fits));
 }
 
 pub yields-as : {strings l : ℕ} {fs fs′ : List Fault} {gs gs′ : List Named} {m : ℕ} (m′ : ℕ) {t t′ : List ℕ} {d d′ : Done} → fs ≡ fs′ → gs ≡ gs′
     → m ≤ m′ → Yields strings l fs gs m t t′ d d′ → Yields strings l fs′ gs′ m′ t t′ d d′
-yields-as {strings} {l} {fs} {fs′} {gs} m′ {t} {t′} {d} {d′} a b c x =
-    rw (← a) (rw (← b)
+yields-as {strings} {l} {fs} {fs′} {gs} m′ {t} {t′} {d} {d′} a b c x = rw (← a) (rw (← b)
     (record { did = did-as (functionsSays strings l (funs gs)) m′ (x .did) same-refl (λ n e. refl) c; tall = x .tall; fits = x .fits }))
 
 -- ---- the height is taken away
@@ -141,31 +120,15 @@ yields-one text sc start strings l f {m} {tall} {tall′} {place} {t} {t′} {st
     record {
       did = did-as (functionsSays strings l (funs (g ∷ []))) m (did-flat low e x) same-refl (λ n c. code-is refl refl (omega arith)) (omega arith);
       tall = λ c. let q : a .high ≡ largestHeight (g .fun) = rw (x .clean c .high, low) in simp (et, ep, q, append-nil);
-      fits = fit-then (by (ltb 8192 (largestHeight (g .fun)))) noFit;
+      fits = fit-then (either AllFit (ltb 8192 (largestHeight (g .fun))) (λ _. fault-fits (omega arith)) (λ _. noFit)) noFit;
     }
-  where
-    low-place : f .name .place < 2 ^ 32
-    low-place = omega arith
-
-    low-number : 16 < 32
-    low-number = omega arith
-
-    by : (b : Bool) → AllFit (cond b (fault (f .name .place) 16) [])
-    by true = andFit low-place low-number noFit
-    by false = noFit
 
 -- ---- the size of a function
 
 pub functions-step : (f : Function) (fs : List Function) → 10 + length (encodeFunctions fs) ≤ length (encodeFunctions (f ∷ fs))
 unfolding encodeFunctions encodeName
-functions-step f fs =
-    let w = encodeNames (f .parameters) ++ encodeBody (f .body) in
-    omega (
-      arith,
-      length-append (encodeFunction f) (encodeFunctions fs),
-      length-append (encodeName (f .name) ++ w)
-          (length (encodeName (f .name) ++ w) ∷ length (encodeNames (f .parameters)) ∷ 0 ∷ bodyWord (f .body) ∷ []),
-    )
+functions-step f fs = let ns = encodeNames (f .parameters) in let w = encodeName (f .name) ++ (ns ++ encodeBody (f .body)) in
+    omega (arith, length-append (encodeFunction f) (encodeFunctions fs), length-append w (length w ∷ length ns ∷ 0 ∷ bodyWord (f .body) ∷ []))
 
 pub functions-long : (fs : List Function) → 10 * length fs ≤ length (encodeFunctions fs)
 functions-long [] = omega arith
@@ -178,57 +141,35 @@ function-place f h = h .at 2 (omega arith)
 
 -- ---- the loop
 
--- what the code needs at a function
-pub record FunctionFits (at size end l label : ℕ) : Type 0 where
-  pub next : at + 2 + size ≤ end
-  pub small : end < 2 ^ 32
-  pub few : l < label + end
-
 module _ (text t₀ : List ℕ) {s₀ : List ℕ} {from end : ℕ} {here : Here} (label : ℕ) (d₀ : Done) where
   -- `rest` is left at `at`; the functions before it are `made`, with their faults
   pub record GroupPart (y : ReadyFs s₀ from end here d₀) (before : Scope) (k : ℕ) (s t : List ℕ) (at l : ℕ) (d : Done) : Type 0 where
-    pub rest : List Function
+    pub left : Rest encodeFunctions (y .base) (here .top) s₀ s end at
     pub found : List Fault
     pub made : List Named
     pub scope : Scope
     pub number : ℕ
     pub used : ℕ
-    pub lies : Lies s₀ at (encodeFunctions rest)
-    pub ends : end ≡ at + length (encodeFunctions rest)
-    pub starts : from ≤ at
-    pub keeps : Keeps (y .base) (here .top) s₀ s
-    pub uses : used + length (encodeFunctions rest) ≤ length (encodeFunctions (y .functions))
-    pub room : here .top * 2 + length (encodeFunctions rest) + 2 ≤ y .base * 2 + 4 * length rest
-    pub some : 0 < d .state .label
+    pub bounds : (l ≡ label + length made) × (0 < d .state .label) × (functionsDepth (left .rest) ≤ here .left) × (length made ≤ used)
+        × (used + length (encodeFunctions (left .rest)) ≤ length (encodeFunctions (y .functions)))
+        × (here .top * 2 + length (encodeFunctions (left .rest)) + 2 ≤ y .base * 2 + 4 * length (left .rest))
     pub low : d .state .high ≡ 0
-    pub shallow : functionsDepth rest ≤ here .left
-    pub fine : FineFs rest
-    pub next : l ≡ label + length made
-    pub few : length made ≤ used
-    pub faults-are : found ++ groupFaults text (y .scope) rest ≡ groupFaults text (y .scope) (y .functions)
-    pub made-are : made ++ groupOf text number scope (y .scope) rest ≡ groupOf text k before (y .scope) (y .functions)
+    pub fine : FineFs (left .rest)
+    pub faults-are : found ++ groupFaults text (y .scope) (left .rest) ≡ groupFaults text (y .scope) (y .functions)
+    pub made-are : made ++ groupOf text number scope (y .scope) (left .rest) ≡ groupOf text k before (y .scope) (y .functions)
     pub yields : Yields (here .strings) label found made (2 * used) t₀ t d₀ d
 
   pub group-begin : (y : ReadyFs s₀ from end here d₀) (before : Scope) (k : ℕ) → GroupPart y before k s₀ t₀ from label d₀
   group-begin y before k = record {
-    rest = y .functions;
+    left = rest-all (y .functions) (y .lies) (y .ends) (y .above);
     found = [];
     made = [];
     scope = before;
     number = k;
     used = 0;
-    lies = y .lies;
-    ends = y .ends;
-    starts = omega arith;
-    keeps = keeps-all;
-    uses = omega arith;
-    room = y .room;
-    some = y .some;
+    bounds = omega arith;
     low = y .low;
-    shallow = y .shallow;
     fine = y .fine;
-    next = omega arith;
-    few = omega arith;
     faults-are = refl;
     made-are = refl;
     yields = yields-none (here .strings) label;
@@ -236,32 +177,21 @@ module _ (text t₀ : List ℕ) {s₀ : List ℕ} {from end : ℕ} {here : Here}
 
   module _ {s t : List ℕ} {at l size next : ℕ} {d : Done} (lt : at < end) (es : size ≡ getD s at 0) (en : next ≡ at + 2 + size)
       (y : ReadyFs s₀ from end here d₀) {before : Scope} {k : ℕ} (p : GroupPart y before k s t at l d) where
-    abbrev pub group-one : IsFunction s₀ at end (p .rest)
-    group-one = is-function (p .rest) (p .lies) (p .ends) lt
+    abbrev pub group-one : IsFunction s₀ at end (p .left .rest)
+    group-one = is-function (p .left .rest) (p .left .lies) (p .left .ends) lt
 
-    pub group-size : size ≡ length (encodeFunction (group-one .part))
-    group-size = es ∙ p .keeps .above at (omega arith) ∙ group-one .size-of
-
-    pub group-length : length (encodeFunctions (p .rest)) ≡ 2 + length (encodeFunction (group-one .part)) + length (encodeFunctions (group-one .more))
-    group-length = omega (arith, p .ends, group-one .ends)
-
-    pub group-deep : (functionDepth (group-one .part) ≤ here .left) × (functionsDepth (group-one .more) ≤ here .left)
+    -- its size, what it takes, and how deep it is
+    pub group-sizes : let u = group-one in
+        ((size ≡ length (encodeFunction (u .part)))
+        × (length (encodeFunctions (p .left .rest)) ≡ 2 + length (encodeFunction (u .part)) + length (encodeFunctions (u .more))))
+        × (length (p .left .rest) ≡ suc (length (u .more))) × (functionDepth (u .part) ≤ here .left) × (functionsDepth (u .more) ≤ here .left)
     unfolding functionsDepth
-    group-deep = (omega (arith, ap functionsDepth (group-one .same)), omega (arith, ap functionsDepth (group-one .same)))
+    group-sizes = let e = ap functionsDepth (group-one .same) in
+        (taken-sizes (p .left) group-one es, ap length (group-one .same), omega arith, omega arith)
 
     pub group-fine : FineF (group-one .part) × FineFs (group-one .more)
     unfolding FineFunctions
     group-fine = subst FineFs (group-one .same) (p .fine)
-
-    pub group-many : length (p .rest) ≡ suc (length (group-one .more))
-    group-many = ap length (group-one .same)
-
-    pub group-room : here .top * 2 + length (encodeFunction (group-one .part)) ≤ y .base * 2
-    group-room = omega (arith, group-length, group-many, functions-long (group-one .more))
-
-    pub group-used : p .used + 2 + length (encodeFunction (group-one .part)) + length (encodeFunctions (group-one .more))
-        ≤ length (encodeFunctions (y .functions))
-    group-used = omega (arith, group-length)
 
     abbrev pub group-ready : ReadyF s next here (d .state)
     group-ready = record {
@@ -269,23 +199,24 @@ module _ (text t₀ : List ℕ) {s₀ : List ℕ} {from end : ℕ} {here : Here}
       lo = at + 2;
       tree = group-one .part;
       scope = y .scope;
-      lies = keeps-lies (p .keeps) (omega arith) (group-one .lies);
-      ends = omega (arith, en, group-size);
+      lies = keeps-lies (p .left .keeps) (omega arith) (group-one .lies);
+      ends = omega (arith, en, group-sizes);
       above = omega arith;
       long = omega arith;
-      small = omega (arith, y .small, en, group-size, group-one .ends);
-      shows = keeps-shows (p .keeps) (omega arith) (y .shows);
-      room = group-room;
-      height = omega (arith, group-used);
-      label = omega (arith, group-used);
-      some = p .some;
+      small = omega (arith, y .small, en, group-sizes, group-one .ends);
+      shows = keeps-shows (p .left .keeps) (omega arith) (y .shows);
+      room = omega (arith, group-sizes, functions-long (group-one .more));
+      height = omega (arith, group-sizes);
+      label = omega (arith, group-sizes);
+      some = p .bounds .1;
       strings = y .strings;
-      shallow = group-deep .0;
+      shallow = group-sizes .2;
       fine = group-fine .0;
     }
 
-    pub group-fits : FunctionFits at size end l label
-    group-fits = record { next = omega (arith, group-size, group-one .ends); small = y .small; few = omega arith }
+    -- what the code needs at a function
+    pub group-fits : (at + 2 + size ≤ end) × (end < 2 ^ 32) × (l < label + end)
+    group-fits = (omega (arith, group-sizes, group-one .ends), y .small, omega arith)
 
     pub group-next : {s₁ t₁ : List ℕ} {tall place : ℕ} {a r : State} → GaveF text s s₁ l next here t t₁ (d .state) a → place ≡ getD s₁ (at + 4) 0
         → place < 2 ^ 32 → tall ≡ least (d .tall) (cond (ltb 8192 (a .high)) (fault place 16) []) → r ≡ flat a → GroupPart y before k s₁ t₁ next
@@ -294,37 +225,23 @@ module _ (text t₀ : List ℕ) {s₀ : List ℕ} {from end : ℕ} {here : Here}
     group-next g ep small et er =
         let u = group-one in let f = u .part in let x = g .by group-ready in let start = startOf (lookup text (p .scope) (f .name)) in
         let n = namedBy text (y .scope) start f in let q4 : at + 2 + 2 ≡ at + 4 = omega arith in let one = yields-one text (y .scope) start
-        (here .strings) l f (x .did) (p .low) er (ep ∙ x .keeps .above (at + 4) (omega arith) ∙ p .keeps .above (at + 4) (omega arith)
+        (here .strings) l f (x .did) (p .low) er (ep ∙ x .keeps .above (at + 4) (omega arith) ∙ p .left .keeps .above (at + 4) (omega arith)
         ∙ ap (λ (z : ℕ). getD s₀ z 0) (sym q4) ∙ function-place f (u .lies)) small et in
         record {
-          rest = u .more;
+          left = rest-next (p .left) u es en (x .keeps);
           found = p .found ++ functionFaults text (y .scope) f;
           made = p .made ++ (n ∷ []);
           scope = withFunction (p .scope) (f .name) (p .number) start;
           number = p .number + 1;
           used = p .used + (2 + length (encodeFunction f));
-          lies = subst (λ (z : ℕ). Lies s₀ z (encodeFunctions (u .more))) (omega (arith, en, group-size)) (u .lies-more);
-          ends = omega (arith, en, group-size);
-          starts = omega arith;
-          keeps = keeps-then (p .keeps) (x .keeps);
-          uses = omega arith;
-          room = omega (
-            arith,
-            group-length,
-            group-many,
-            functions-step f (u .more),
-            ap (λ (z : List Function). length (encodeFunctions z)) (u .same),
-          );
-          some = omega arith;
+          bounds = let a = length-append (p .made) (n ∷ []) in let b = ap (λ (z : List Function). length (encodeFunctions z)) (u .same) in
+              omega (arith, group-sizes, functions-step f (u .more));
           low = rw er;
-          shallow = group-deep .1;
           fine = group-fine .1;
-          next = omega (arith, length-append (p .made) (n ∷ []));
-          few = omega (arith, length-append (p .made) (n ∷ []));
           faults-are = cc (append-assoc (p .found) (functionFaults text (y .scope) f) (groupFaults text (y .scope) (u .more)));
           made-are = cc (append-assoc (p .made) (n ∷ []) (groupOf text (p .number + 1) (withFunction (p .scope) (f .name) (p .number) start)
               (y .scope) (u .more)));
-          yields = yields-as (2 * (p .used + (2 + length (encodeFunction f)))) refl refl (omega arith) (yields-then l (p .next) (p .yields) one);
+          yields = yields-as (2 * (p .used + (2 + length (encodeFunction f)))) refl refl (omega arith) (yields-then l (p .bounds .0) (p .yields) one);
         }
 
   pub group-end : {s t : List ℕ} {at l : ℕ} {d : Done} → end ≤ at
@@ -332,8 +249,9 @@ module _ (text t₀ : List ℕ) {s₀ : List ℕ} {from end : ℕ} {here : Here}
       → GaveFs text s₀ s from end label here t₀ t d₀ d
   unfolding groupFaults groupOf
   group-end lt q = record {
-    by = λ y before k. let p = q y before k in let e = no-function (p .rest) (p .ends) lt in let fe : p .found ≡ groupFaults text (y .scope)
+    by = λ y before k. let p = q y before k in let e = no-function (p .left .rest) (p .left .ends) lt in
+        let fe : p .found ≡ groupFaults text (y .scope)
         (y .functions) = cc (append-nil (p .found)) in let me : p .made ≡ groupOf text k before (y .scope) (y .functions) = cc (append-nil
         (p .made)) in let r = yields-as (2 * length (encodeFunctions (y .functions))) fe me (omega arith) (p .yields) in
-        record { result = record { keeps = p .keeps; did = r .did }; tall = r .tall; fits = r .fits; low = p .low };
+        record { result = record { keeps = p .left .keeps; did = r .did }; tall = r .tall; fits = r .fits; low = p .low };
   }

@@ -1,19 +1,16 @@
 -- The items of GLOBAL and MANIFEST.
 use Rattle.laws.proofs.Basics.{ℕ, _+_, _*_, _^_, _<_, _≤_, _≡_, refl, sym, ap, subst, _∙_, List, [], _∷_, _++_, append-assoc, Bool, true, false}
-use Rattle.laws.proofs.Basics.{length, getD, length-append, arith}
+use Rattle.laws.proofs.Basics.{length, getD, arith}
 use Rattle.language.specs.Tree as T
-use Rattle.compiler.proofs.Language.{Item, Scope, declared, inBlock, onFound, fault, Judged, judgedWord, faultsOf, encodeName, encodeConstant}
+use Rattle.compiler.proofs.Language.{Item, Scope, declared, inBlock, onFound, fault, judgedWord, faultsOf, encodeName, encodeConstant}
 use Rattle.compiler.proofs.Language.{encodeItems, FineName, FineConstant, FineItem, FineItems}
-use Rattle.language.specs.Constants as K
 use Rattle.compiler.specs.Scope as S
-use Rattle.compiler.proofs.Vocabulary.{Shows, Keeps, PushedName, Worded, code, named, nameAt, State, Did, Lies, STRINGS}
-use Rattle.compiler.proofs.Scoping.{keeps-all, keeps-then, keeps-lower, keeps-name, pushed-keeps, pushed-name}
-use Rattle.compiler.specs.Commands.{nothing, Again}
-use Rattle.compiler.proofs.Done.{did-none, did-then, did-as, same-refl}
-use Rattle.compiler.proofs.Trees.{first, second, keeps-lies}
-use Rattle.compiler.proofs.Judging.{judged-word}
-use Rattle.compiler.specs.Locals.{Says, fit, unfit, Judges, JudgesMost, Blames}
-use Rattle.compiler.specs.declared.steps.Verdict.{Verdict}
+use Rattle.compiler.proofs.Vocabulary.{Shows, PushedName, Worded, code, nameAt, State, Did, Lies, STRINGS, Again, Verdict}
+use Rattle.compiler.proofs.Common.{keeps-lower, keeps-name, name-there, pushed-keeps, pushed-name, did-none, did-then, did-as, same-refl}
+use Rattle.compiler.proofs.Common.{second, keeps-lies, First, first-of, Rest, rest-all, rest-next}
+use Rattle.compiler.specs.Commands.{nothing}
+use Rattle.compiler.proofs.Judging.{judged-word, says-word}
+use Rattle.compiler.specs.Locals.{Says, Judges, JudgesMost, Blames}
 use Rattle.language.specs.Program.{globalsAfter, manifestsAfter, globalFaults, manifestFaults}
 use Rattle.compiler.specs.Items.{judged, meaning, after, faults, FineIs, JudgesItem, ReadyItems, Items}
 
@@ -36,54 +33,24 @@ meaning-manifest v e q = rw e q
 
 -- ---- an item at the front
 
-pub record IsItem (s : List ℕ) (at end : ℕ) (is : List Item) : Type 0 where
-  pub item : Item
-  pub more : List Item
-  pub same : is ≡ item ∷ more
-  pub width : getD s (at + 3) 0 ≡ item .name .width
-  pub place : getD s (at + 4) 0 ≡ item .name .place
-  pub size-of : getD s at 0 ≡ 4 + length (encodeConstant (item .constant))
-  pub lies-k : Lies s (at + 6) (encodeConstant (item .constant))
-  pub lies-more : Lies s (at + 6 + length (encodeConstant (item .constant))) (encodeItems more)
-  pub ends : end ≡ at + 6 + length (encodeConstant (item .constant)) + length (encodeItems more)
+abbrev itemCode : Item → List ℕ
+itemCode i = encodeName (i .name) ++ encodeConstant (i .constant)
+
+abbrev pub IsItem : (s : List ℕ) (at end : ℕ) → List Item → Type 0
+IsItem = First encodeItems itemCode (λ i. 0) (λ i is. i ∷ is)
 
 pub is-item : {s : List ℕ} {at end : ℕ} (is : List Item) → Lies s at (encodeItems is) → end ≡ at + length (encodeItems is) → at < end
     → IsItem s at end is
-unfolding encodeItems encodeName
+unfolding encodeItems
 is-item [] h e l = absurd (omega arith)
-is-item {s} {at} (i ∷ is) h e l =
-    let pk = encodeConstant (i .constant) in let w : List ℕ = 0 ∷ i .name .width ∷ i .name .place ∷ 59 ∷ pk in let x : List ℕ = length w ∷ 0 ∷ w in
-    let six : List ℕ = length w ∷ 0 ∷ 0 ∷ i .name .width ∷ i .name .place ∷ 59 ∷ [] in let front : Lies s at x = first x (encodeItems is) h in
-    record {
-      item = i;
-      more = is;
-      same = refl;
-      width = front .at 3 (omega arith);
-      place = front .at 4 (omega arith);
-      size-of = ap (λ (z : ℕ). getD s z 0) (omega arith) ∙ front .at 0 (omega arith) ∙ omega arith;
-      lies-k = second six pk (at + 6) front refl;
-      lies-more = second x (encodeItems is) (at + 6 + length pk) h (omega arith);
-      ends = omega (arith, length-append x (encodeItems is));
-    }
+is-item (i ∷ is) h e l = first-of encodeItems itemCode (λ i. 0) (λ i is. i ∷ is) i is h e
 
 no-item : {at end : ℕ} (is : List Item) → end ≡ at + length (encodeItems is) → end ≤ at → is ≡ []
 unfolding encodeItems encodeName
 no-item [] e l = refl
 no-item (i ∷ is) e l = absurd (omega arith)
 
-fine-first : (i : Item) (is : List Item) → FineIs (i ∷ is) → FineItem STRINGS i
-unfolding FineItems
-fine-first i is f = f .0
-
-fine-more : (i : Item) (is : List Item) → FineIs (i ∷ is) → FineIs is
-unfolding FineItems
-fine-more i is f = f .1
-
 -- ---- one more
-
-word-is : {r : Verdict} (j : Judged) → Says r j → r .word ≡ judgedWord j
-word-is (K.good v) (fit q) = refl
-word-is (K.refused fs) (unfit a b w) = w
 
 meaning-word : (g : Bool) (text : List ℕ) (sc : Scope) (c : T.Constant) {s : List ℕ} {top : ℕ} → Shows s top sc → FineConstant c
     → Worded (meaning g (judgedWord (judged g text sc c)))
@@ -94,56 +61,37 @@ meaning-word false text sc c sh f = judged-word text sc c sh f
 abbrev scopeWith : Bool → List ℕ → Scope → Item → Scope
 scopeWith g text sc i = declared sc (i .name) (meaning g (judgedWord (judged g text sc (i .constant))))
 
-after-step : (g : Bool) (text : List ℕ) (sc : Scope) (i : Item) (is : List Item) → after g text sc (i ∷ is) ≡ after g text (scopeWith g text sc i) is
-unfolding after globalsAfter manifestsAfter meaning judged
-after-step true text sc i is = refl
-after-step false text sc i is = refl
+one-more : (g : Bool) (text : List ℕ) (sc : Scope) (i : Item) (is : List Item) → let sc′ = scopeWith g text sc i in
+    (after g text sc (i ∷ is) ≡ after g text sc′ is) × (faults g text sc (i ∷ is)
+    ≡ faultsOf (judged g text sc (i .constant)) ++ (onFound (inBlock text sc (i .name)) [] (fault (i .name .place) 9) ++ faults g text sc′ is))
+unfolding after globalsAfter manifestsAfter faults globalFaults manifestFaults meaning judged
+one-more true text sc i is = (refl, simp append-assoc)
+one-more false text sc i is = (refl, simp append-assoc)
 
-after-none : (g : Bool) (text : List ℕ) (sc : Scope) → after g text sc [] ≡ sc
-unfolding after globalsAfter manifestsAfter
-after-none true text sc = refl
-after-none false text sc = refl
-
-faults-step : (g : Bool) (text : List ℕ) (sc : Scope) (i : Item) (is : List Item) → faults g text sc (i ∷ is)
-    ≡ faultsOf (judged g text sc (i .constant))
-    ++ (onFound (inBlock text sc (i .name)) [] (fault (i .name .place) 9) ++ faults g text (scopeWith g text sc i) is)
-unfolding faults globalFaults manifestFaults meaning judged
-faults-step true text sc i is = simp append-assoc
-faults-step false text sc i is = simp append-assoc
-
-faults-none : (g : Bool) (text : List ℕ) (sc : Scope) → faults g text sc [] ≡ []
-unfolding faults globalFaults manifestFaults
-faults-none true text sc = refl
-faults-none false text sc = refl
+no-more : (g : Bool) (text : List ℕ) (sc : Scope) → (after g text sc [] ≡ sc) × (faults g text sc [] ≡ [])
+unfolding after globalsAfter manifestsAfter faults globalFaults manifestFaults
+no-more true text sc = (refl, refl)
+no-more false text sc = (refl, refl)
 
 -- ---- the loop
 
 module _ (g : Bool) (text : List ℕ) {s₀ : List ℕ} {from end top : ℕ} (st₀ : State) where
   pub record ItemsPart (y : ReadyItems s₀ from end top) (s : List ℕ) (at k : ℕ) (st : State) : Type 0 where
-    pub rest : List Item
+    pub left : Rest encodeItems (y .base) top s₀ s end at
     pub scope : Scope
-    pub lies : Lies s₀ at (encodeItems rest)
-    pub ends : end ≡ at + length (encodeItems rest)
-    pub starts : from ≤ at
     pub shows : Shows s (top + 2 * k) scope
-    pub keeps : Keeps (y .base) top s₀ s
-    pub many : k + length rest ≡ length (y .items)
-    pub fine : FineIs rest
-    pub same : after g text (y .scope) (y .items) ≡ after g text scope rest
-    pub finish : (t : List ℕ) (st′ : State) → Did (faults g text scope rest) nothing 0 t t st st′
+    pub many : k + length (left .rest) ≡ length (y .items)
+    pub fine : FineIs (left .rest)
+    pub same : after g text (y .scope) (y .items) ≡ after g text scope (left .rest)
+    pub finish : (t : List ℕ) (st′ : State) → Did (faults g text scope (left .rest)) nothing 0 t t st st′
         → Did (faults g text (y .scope) (y .items)) nothing 0 t t st₀ st′
 
   pub items-begin : (y : ReadyItems s₀ from end top) → ItemsPart y s₀ from 0 st₀
-  items-begin y =
-      let a : top ≡ top + 2 * 0 = omega arith in
+  items-begin y = let a : top ≡ top + 2 * 0 = omega arith in
       record {
-        rest = y .items;
+        left = rest-all (y .items) (y .lies) (y .ends) (y .above);
         scope = y .scope;
-        lies = y .lies;
-        ends = y .ends;
-        starts = omega arith;
         shows = rw a at (y .shows);
-        keeps = keeps-all;
         many = omega arith;
         fine = y .fine;
         same = refl;
@@ -159,58 +107,57 @@ module _ (g : Bool) (text : List ℕ) {s₀ : List ℕ} {from end top : ℕ} (st
     pub low : y .base ≤ end
     pub name : FineName (nameAt s (at + 2))
 
-  item-name : {s : List ℕ} {at : ℕ} (k : ℕ) {st : State} (l : at < end) (y : ReadyItems s₀ from end top) (p : ItemsPart y s at k st)
-      → nameAt s (at + 2) ≡ is-item (p .rest) (p .lies) (p .ends) l .item .name
-  item-name {s} {at} k l y p =
-      let u = is-item (p .rest) (p .lies) (p .ends) l in let q2 : at + 2 + 2 ≡ at + 4 = omega arith in let q1 : at + 2 + 1 ≡ at + 3 = omega arith in
-      keeps-name (p .keeps) (omega arith) ∙ ap (λ (z : ℕ). named z (getD s₀ (at + 2 + 1) 0)) (rw (q2, u .place))
-      ∙ ap (λ (z : ℕ). named (u .item .name .place) z) (rw (q1, u .width))
+  module _ {s : List ℕ} {at : ℕ} (k : ℕ) {st : State} (l : at < end) (y : ReadyItems s₀ from end top) (p : ItemsPart y s at k st) where
+    abbrev pub front : IsItem s₀ at end (p .left .rest)
+    front = is-item (p .left .rest) (p .left .lies) (p .left .ends) l
 
-  pub items-fit : {s : List ℕ} {at : ℕ} (k : ℕ) {st : State} → at < end → (y : ReadyItems s₀ from end top) → ItemsPart y s at k st → Fits y s at k
-  items-fit {s} {at} k l y p =
-      let u = is-item (p .rest) (p .lies) (p .ends) l in let c : k + 1 + length (u .more) ≡ length (y .items) = omega (arith, ap length (u .same)) in
-      record {
-        next = omega (arith, p .keeps .above at (omega (arith, y .above, p .starts)));
-        room = omega arith;
-        long = omega arith;
-        small = y .small;
-        low = omega arith;
-        name = subst FineName (sym (item-name k l y p)) (fine-first (u .item) (u .more) (subst FineIs (u .same) (p .fine)) .name);
-      }
+    item-name : nameAt s (at + 2) ≡ front .part .name
+    unfolding encodeName
+    item-name = keeps-name (p .left .keeps) (omega arith) ∙ name-there s₀ (at + 2) (front .lies .at 1 (omega arith)) (front .lies .at 2 (omega arith))
 
-  -- its constant judged
-  item-says : {s : List ℕ} {at size next : ℕ} (k : ℕ) {st : State} {c : Verdict} (l : at < end) → size ≡ getD s at 0 → next ≡ at + 2 + size
-      → JudgesItem g text s next (top + 2 * k) c → (y : ReadyItems s₀ from end top) (p : ItemsPart y s at k st) → Says c
-      (judged g text (p .scope) (is-item (p .rest) (p .lies) (p .ends) l .item .constant))
-  item-says {s} {at} k l es en ju y p =
-      let u = is-item (p .rest) (p .lies) (p .ends) l in
-      ju .by (p .scope) (at + 6) (u .item .constant) (p .shows) (fine-first (u .item) (u .more) (subst FineIs (u .same) (p .fine)) .constant)
-      (keeps-lies (p .keeps) (omega arith) (u .lies-k)) (omega (arith, p .keeps .above at (omega (arith, y .above, p .starts))))
+    item-fine : FineItem STRINGS (front .part) × FineIs (front .more)
+    unfolding FineItems
+    item-fine = subst FineIs (front .same) (p .fine)
+
+    pub items-fit : Fits y s at k
+    items-fit = let u = front in let c : k + 1 + length (u .more) ≡ length (y .items) = omega (arith, ap length (u .same)) in record {
+      next = omega (arith, p .left .keeps .above at (p .left .above));
+      room = omega arith;
+      long = omega arith;
+      small = y .small;
+      low = omega arith;
+      name = subst FineName (sym item-name) (item-fine .0 .name);
+    }
+
+    -- its constant judged
+    item-says : {size next : ℕ} {c : Verdict} → size ≡ getD s at 0 → next ≡ at + 2 + size → JudgesItem g text s next (top + 2 * k) c
+        → Says c (judged g text (p .scope) (front .part .constant))
+    unfolding encodeName
+    item-says es en ju = let u = front in let c = u .part .constant in
+        ju .by (p .scope) (at + 6) c (p .shows) (item-fine .0 .constant)
+        (keeps-lies (p .left .keeps) (omega arith) (second (encodeName (u .part .name)) (encodeConstant c) (at + 6) (u .lies) (omega arith)))
+        (omega (arith, p .left .keeps .above at (p .left .above)))
 
   pub items-next : {s s₁ : List ℕ} {at size next m place x : ℕ} {c : Verdict} (k : ℕ) {st a r : State} → at < end → size ≡ getD s at 0
       → next ≡ at + 2 + size → JudgesItem g text s next (top + 2 * k) c → S.Told text s (top + 2 * k) (at + 2) m → place ≡ getD s (at + 4) 0 → Blames
       c st a → Again m place a r → PushedName s s₁ (top + 2 * k) (at + 2) x → x ≡ code (meaning g (c .word)) → (y : ReadyItems s₀ from end top)
       → ItemsPart y s at k st → ItemsPart y s₁ next (k + 1) r
   items-next {s} {s₁} {at} {size} {next} {m} {place} {x} {c} k {st} {a} {r} l es en ju told ep bl ag pu ex y p =
-      let u = is-item (p .rest) (p .lies) (p .ends) l in let f = items-fit k l y p in let told-k = item-says k l es en ju y p in let i = u .item in
-      let sc = p .scope in let sc′ = scopeWith g text sc i in let j = judged g text sc (i .constant) in let b4 : y .base ≤ at = omega arith in
-      let n : nameAt s (at + 2) ≡ i .name = item-name k l y p in let ep′ : place ≡ i .name .place = ep ∙ p .keeps .above (at + 4) (omega arith)
-      ∙ u .place in let w : meaning g (c .word) ≡ meaning g (judgedWord j) = ap (meaning g) (word-is j told-k) in let sz : size ≡ 4
-      + length (encodeConstant (i .constant)) = es ∙ p .keeps .above at b4 ∙ u .size-of in let nx : at + 6 + length (encodeConstant (i .constant))
-      ≡ next = omega arith in let tk : top + 2 * k + 2 ≡ top + 2 * (k + 1) = omega arith in
+      let u = front k l y p in let f = items-fit k l y p in let told-k = item-says k l y p es en ju in let i = u .part in
+      let sc = p .scope in let sc′ = scopeWith g text sc i in let j = judged g text sc (i .constant) in
+      let n : nameAt s (at + 2) ≡ i .name = item-name k l y p in let four : at + 4 ≡ at + 2 + 2 = omega arith in
+      let ep′ : place ≡ i .name .place = cc in
+      let w : meaning g (c .word) ≡ meaning g (judgedWord j) = ap (meaning g) (says-word j told-k) in
+      let tk : top + 2 * k + 2 ≡ top + 2 * (k + 1) = omega arith in
       record {
-        rest = u .more;
+        left = rest-next (p .left) u es en (keeps-lower (omega arith) (pushed-keeps (pu .pushed) (f .room) (f .long)));
         scope = sc′;
-        lies = rw nx at (u .lies-more);
-        ends = omega arith;
-        starts = omega arith;
         shows = rw tk at (rw n at (pushed-name pu (f .room) (f .long) (meaning g (judgedWord j)) (p .shows) (ex ∙ ap code w)
-            (meaning-word g text sc (i .constant) (p .shows) (fine-first (u .item) (u .more) (subst FineIs (u .same) (p .fine)) .constant))));
-        keeps = keeps-then (p .keeps) (keeps-lower (omega arith) (pushed-keeps (pu .pushed) (f .room) (f .long)));
+            (meaning-word g text sc (i .constant) (p .shows) (item-fine k l y p .0 .constant))));
         many = omega (arith, ap length (u .same));
-        fine = fine-more (u .item) (u .more) (subst FineIs (u .same) (p .fine));
-        same = p .same ∙ ap (after g text sc) (u .same) ∙ after-step g text sc i (u .more);
-        finish = λ t st′ d. p .finish t st′ (rw (ap (faults g text sc) (u .same) ∙ faults-step g text sc i (u .more))
+        fine = item-fine k l y p .1;
+        same = p .same ∙ ap (after g text sc) (u .same) ∙ one-more g text sc i (u .more) .0;
+        finish = λ t st′ d. p .finish t st′ (rw (ap (faults g text sc) (u .same) ∙ one-more g text sc i (u .more) .1)
             (did-as nothing 0 (did-then (bl .by j told-k t) (did-then (rw ep′ at (ag .by (inBlock text sc (i .name)) (rw (told .by sc (p .shows), n))
             t)) d)) same-refl (λ v e. refl) (omega arith)));
       }
@@ -218,12 +165,13 @@ module _ (g : Bool) (text : List ℕ) {s₀ : List ℕ} {from end top : ℕ} (st
   pub items-end : {s : List ℕ} {at : ℕ} (k : ℕ) {st : State} → end ≤ at → ((y : ReadyItems s₀ from end top) → ItemsPart y s at k st)
       → Items g text s₀ s from end top st₀ (record { top = top + 2 * k; state = st })
   items-end k {st} l q = record {
-    by = λ y. let p = q y in let e = no-item (p .rest) (p .ends) l in let c : k ≡ length (y .items) = omega (arith, ap length e) in record {
-      moved = omega arith;
-      shows = rw (p .same ∙ ap (after g text (p .scope)) e ∙ after-none g text (p .scope)) (p .shows);
-      keeps = p .keeps;
-      did = λ t. p .finish t st (rw (ap (faults g text (p .scope)) e ∙ faults-none g text (p .scope)) (did-none 0));
-    };
+    by = λ y. let p = q y in let e = no-item (p .left .rest) (p .left .ends) l in let c : k ≡ length (y .items) = omega (arith, ap length e) in
+        record {
+          moved = omega arith;
+          shows = rw (p .same ∙ ap (after g text (p .scope)) e ∙ no-more g text (p .scope) .0) (p .shows);
+          keeps = p .left .keeps;
+          did = λ t. p .finish t st (rw (ap (faults g text (p .scope)) e ∙ no-more g text (p .scope) .1) (did-none 0));
+        };
   }
 
   pub items-out : {s : List ℕ} {at : ℕ} (k : ℕ) {st : State} (y : ReadyItems s₀ from end top) → ItemsPart y s at k st → top + 2 * k ≤ length s₀

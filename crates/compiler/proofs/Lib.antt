@@ -5,6 +5,7 @@ pub mod Done
 pub mod Trees
 pub mod Parts
 pub mod Lists
+pub mod Common
 pub mod Counting
 pub mod Forms
 pub mod Expressions

@@ -34,6 +34,32 @@ first-of all one word with {s} {at} x xs h e =
       ends = omega (arith, length-append (one x) (all xs));
     }
 
+-- a loop over a list: at `at` the rest is left, and s keeps what stands from `base` on
+pub record Rest {L : Type 0} (all : L → List ℕ) (base top : ℕ) (s₀ s : List ℕ) (end at : ℕ) : Type 0 where
+  pub rest : L
+  pub lies : Lies s₀ at (all rest)
+  pub ends : end ≡ at + length (all rest)
+  pub above : base ≤ at
+  pub keeps : Keeps base top s₀ s
+
+abbrev pub rest-all : {L : Type 0} {all : L → List ℕ} {base top : ℕ} {s₀ : List ℕ} {end from : ℕ} (xs : L) → Lies s₀ from (all xs)
+    → end ≡ from + length (all xs) → base ≤ from → Rest all base top s₀ s₀ end from
+rest-all xs h e l = record { rest = xs; lies = h; ends = e; above = l; keeps = keeps-all }
+
+module _ {L A : Type 0} {all : L → List ℕ} {one : A → List ℕ} {word : A → ℕ} {with : A → L → L} {base top : ℕ} {s₀ s : List ℕ} {end at size : ℕ}
+    (p : Rest all base top s₀ s end at) (u : First all one word with s₀ at end (p .rest)) (es : size ≡ getD s at 0) where
+  pub taken-sizes : (size ≡ length (one (u .part))) × (length (all (p .rest)) ≡ 2 + length (one (u .part)) + length (all (u .more)))
+  taken-sizes = (es ∙ p .keeps .above at (p .above) ∙ u .size-of, omega (arith, p .ends, u .ends))
+
+  abbrev pub rest-next : {s₁ : List ℕ} {next : ℕ} → next ≡ at + 2 + size → Keeps base top s s₁ → Rest all base top s₀ s₁ end next
+  rest-next en k = record {
+    rest = u .more;
+    lies = subst (λ (n : ℕ). Lies s₀ n (all (u .more))) (omega (arith, taken-sizes)) (u .lies-more);
+    ends = omega (arith, u .ends, taken-sizes);
+    above = omega arith;
+    keeps = keeps-then (p .keeps) k;
+  }
+
 -- a kind of list: how it stands in scratch, its depth, what is fine of it, and that its first item can be taken off
 pub record Kind (L A : Type 0) : Type 1 where
   pub all : L → List ℕ

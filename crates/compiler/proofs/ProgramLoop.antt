@@ -9,15 +9,11 @@ use Rattle.language.specs.Program.{Walk, Named, begin, among, functionsAfter, a
 use Rattle.language.specs.Program.{functionsFrom}
 use Rattle.language.specs.Whole.{funs}
 use Rattle.compiler.specs.Scope as S
-use Rattle.compiler.proofs.Vocabulary.{Keeps, STRINGS, Lies}
-use Rattle.compiler.specs.Groups.{Small, Taken, Starting, FineDs}
-use Rattle.compiler.specs.Programs.{startsOf, encodeDeclared, declaredWord, Stands, Yields, ReadyDeclaration, GaveDeclaration, ReadyProgram}
-use Rattle.compiler.specs.Programs.{GaveProgram}
+use Rattle.compiler.proofs.Vocabulary.{STRINGS, Small, Taken, Starting, FineDs, startsOf, encodeDeclared, Stands, Yields, ReadyDeclaration}
+use Rattle.compiler.proofs.Vocabulary.{GaveDeclaration, ReadyProgram, GaveProgram}
 use Rattle.compiler.specs.declared.program.Done.{Done}
 use Rattle.compiler.specs.declared.program.Progress.{Progress}
-use Rattle.compiler.proofs.Scoping.{keeps-all, keeps-then, keeps-lower}
-use Rattle.compiler.proofs.Done.{nil-left, nil-right}
-use Rattle.compiler.proofs.Trees.{keeps-lies}
+use Rattle.compiler.proofs.Common.{keeps-lower, nil-left, nil-right, keeps-lies, Rest, rest-all, taken-sizes, rest-next}
 use Rattle.compiler.proofs.FunctionCounts.{IsDeclaration, is-declaration, no-declaration}
 use Rattle.compiler.proofs.FunctionLists.{functions-long, yields-none, yields-then, yields-as}
 use Rattle.compiler.proofs.Levels.{group-long}
@@ -75,46 +71,32 @@ atFirst d = record { top = 0; functions = 0; done = d }
 module _ (text t₀ : List ℕ) {s₀ table₀ : List ℕ} {base end left strings : ℕ} (d₀ : Done) where
   -- `rest` is left at `at`; the declarations before it have these faults and these functions
   pub record ProgramPart (y : ReadyProgram s₀ table₀ base end left strings d₀) (s table t : List ℕ) (at : ℕ) (l : Progress) : Type 0 where
-    pub rest : Program
+    pub left-over : Rest encodeProgram base 0 s₀ s end at
     pub walk : Walk
     pub found : List Fault
     pub made : List Named
     pub used : ℕ
-    pub lies : Lies s₀ at (encodeProgram rest)
-    pub ends : end ≡ at + length (encodeProgram rest)
-    pub starts : base ≤ at
-    pub keeps : Keeps base 0 s₀ s
     pub stands : Stands base s table walk l
-    pub uses : used + length (encodeProgram rest) ≤ length (encodeProgram (y .program))
-    pub room : l .top * 2 + length (encodeProgram rest) ≤ base * 2
-    pub shallow : programDepth rest ≤ left
-    pub fine : FineDs rest
-    pub few : length made ≤ used
-    pub many : walk .functions ≡ length made
-    pub faults-are : found ++ faultsFrom text walk rest ≡ faultsFrom text begin (y .program)
-    pub made-are : made ++ functionsFrom text walk rest ≡ functionsFrom text begin (y .program)
+    pub bounds : (walk .functions ≡ length made) × (programDepth (left-over .rest) ≤ left) × (length made ≤ used)
+        × (used + length (encodeProgram (left-over .rest)) ≤ length (encodeProgram (y .program)))
+        × (l .top * 2 + length (encodeProgram (left-over .rest)) ≤ base * 2)
+    pub fine : FineDs (left-over .rest)
+    pub faults-are : found ++ faultsFrom text walk (left-over .rest) ≡ faultsFrom text begin (y .program)
+    pub made-are : made ++ functionsFrom text walk (left-over .rest) ≡ functionsFrom text begin (y .program)
     pub yields : Yields strings 1 found made (2 * used) t₀ t d₀ (l .done)
     pub starting : found ≡ [] → Starting table (startsOf (funs made))
 
   pub program-begin : (y : ReadyProgram s₀ table₀ base end left strings d₀) → ProgramPart y s₀ table₀ t₀ base (atFirst d₀)
   unfolding startsOf funs
   program-begin y = record {
-    rest = y .program;
+    left-over = rest-all (y .program) (y .lies) (y .ends) (omega arith);
     walk = begin;
     found = [];
     made = [];
     used = 0;
-    lies = y .lies;
-    ends = y .ends;
-    starts = omega arith;
-    keeps = keeps-all;
     stands = record { shows = S.nothing refl; globals = none-small; free = none-taken (y .empty); many = refl; some = y .some; low = y .low };
-    uses = omega arith;
-    room = omega arith;
-    shallow = y .shallow;
+    bounds = omega arith;
     fine = y .fine;
-    few = omega arith;
-    many = refl;
     faults-are = refl;
     made-are = refl;
     yields = yields-none strings 1;
@@ -123,22 +105,15 @@ module _ (text t₀ : List ℕ) {s₀ table₀ : List ℕ} {base end left string
 
   module _ {s table t : List ℕ} {at size next tag : ℕ} {l : Progress} (lt : at < end) (es : size ≡ getD s at 0) (en : next ≡ at + 2 + size)
       (et : tag ≡ getD s (at + 1) 0) (y : ReadyProgram s₀ table₀ base end left strings d₀) (p : ProgramPart y s table t at l) where
-    abbrev pub program-one : IsDeclaration s₀ at end (p .rest)
-    program-one = is-declaration (p .rest) (p .lies) (p .ends) lt
+    abbrev pub program-one : IsDeclaration s₀ at end (p .left-over .rest)
+    program-one = is-declaration (p .left-over .rest) (p .left-over .lies) (p .left-over .ends) lt
 
-    pub program-size : size ≡ length (encodeDeclared (program-one .part))
-    program-size = es ∙ p .keeps .above at (p .starts) ∙ program-one .size-of
-
-    pub program-word : tag ≡ declaredWord (program-one .part)
-    program-word = et ∙ p .keeps .above (at + 1) (omega arith) ∙ program-one .word-of
-
-    pub program-length : length (encodeProgram (p .rest)) ≡ 2 + length (encodeDeclared (program-one .part))
-        + length (encodeProgram (program-one .more))
-    program-length = omega (arith, p .ends, program-one .ends)
-
-    pub program-deep : (declarationDepth (program-one .part) ≤ left) × (programDepth (program-one .more) ≤ left)
+    pub program-sizes : let u = program-one in
+        ((size ≡ length (encodeDeclared (u .part)))
+        × (length (encodeProgram (p .left-over .rest)) ≡ 2 + length (encodeDeclared (u .part)) + length (encodeProgram (u .more))))
+        × (declarationDepth (u .part) ≤ left) × (programDepth (u .more) ≤ left)
     unfolding programDepth
-    program-deep = (omega (arith, ap programDepth (program-one .same)), omega (arith, ap programDepth (program-one .same)))
+    program-sizes = let e = ap programDepth (program-one .same) in (taken-sizes (p .left-over) program-one es, omega arith, omega arith)
 
     pub program-fine : FineDeclaration STRINGS (program-one .part) × FineDs (program-one .more)
     unfolding FineProgram
@@ -150,18 +125,18 @@ module _ (text t₀ : List ℕ) {s₀ table₀ : List ℕ} {base end left string
       walk = p .walk;
       part = program-one .part;
       stands = p .stands;
-      lies = keeps-lies (p .keeps) (omega arith) (program-one .lies);
-      ends = omega (arith, en, program-size);
-      word = program-word;
+      lies = keeps-lies (p .left-over .keeps) (omega arith) (program-one .lies);
+      ends = omega (arith, en, program-sizes);
+      word = et ∙ p .left-over .keeps .above (at + 1) (omega arith) ∙ program-one .word-of;
       above = omega arith;
       long = omega arith;
-      small = omega (arith, y .small, en, program-size, program-one .ends);
-      room = omega (arith, program-length);
-      height = omega (arith, program-length);
-      label = omega (arith, program-length);
-      few = omega (arith, program-length);
+      small = omega (arith, y .small, en, program-sizes, program-one .ends);
+      room = omega (arith, program-sizes);
+      height = omega (arith, program-sizes);
+      label = omega (arith, program-sizes);
+      few = omega (arith, program-sizes);
       names = omega arith;
-      shallow = program-deep .0;
+      shallow = program-sizes .1;
       fine = program-fine .0;
     }
 
@@ -172,22 +147,14 @@ module _ (text t₀ : List ℕ) {s₀ table₀ : List ℕ} {base end left string
         let u = program-one in let x = g .by program-ready in let w = p .walk in let w′ = afterDeclaration text w (u .part) in
         let fs = declarationFaults text w (u .part) in let gs = declarationFunctions text w (u .part) in
         record {
-          rest = u .more;
+          left-over = rest-next (p .left-over) u es en (keeps-lower (omega arith) (x .keeps));
           walk = w′;
           found = p .found ++ fs;
           made = p .made ++ gs;
           used = p .used + (2 + length (encodeDeclared (u .part)));
-          lies = subst (λ (z : ℕ). Lies s₀ z (encodeProgram (u .more))) (omega (arith, en, program-size)) (u .lies-more);
-          ends = omega (arith, en, program-size);
-          starts = omega arith;
-          keeps = keeps-then (p .keeps) (keeps-lower (omega arith) (x .keeps));
           stands = x .stands;
-          uses = omega arith;
-          room = omega arith;
-          shallow = program-deep .1;
+          bounds = omega (arith, program-sizes, length-append (p .made) gs, made-few text w (u .part), made-many text w (u .part));
           fine = program-fine .1;
-          few = omega (arith, length-append (p .made) gs, made-few text w (u .part));
-          many = omega (arith, length-append (p .made) gs, made-many text w (u .part));
           faults-are = append-assoc (p .found) fs (faultsFrom text w′ (u .more))
               ∙ ap (λ (z : Program). p .found ++ faultsFrom text w z) (sym (u .same)) ∙ p .faults-are;
           made-are = append-assoc (p .made) gs (functionsFrom text w′ (u .more))
@@ -195,7 +162,7 @@ module _ (text t₀ : List ℕ) {s₀ table₀ : List ℕ} {base end left string
           yields = yields-as (2 * (p .used + (2 + length (encodeDeclared (u .part))))) refl refl (omega arith) (yields-then (w .functions + 1)
               (omega arith) (p .yields) (x .yields));
           starting = λ e. subst (Starting table₁) (sym (starts-then (p .made) gs))
-              (x .starting (nil-right (p .found) fs e) (startsOf (funs (p .made))) (starts-long (p .made) ∙ sym (p .many))
+              (x .starting (nil-right (p .found) fs e) (startsOf (funs (p .made))) (starts-long (p .made) ∙ sym (p .bounds .0))
               (p .starting (nil-left (p .found) fs e)));
         }
 
@@ -204,7 +171,8 @@ module _ (text t₀ : List ℕ) {s₀ table₀ : List ℕ} {base end left string
       → GaveProgram text s₀ s table₀ table base end left strings t₀ t d₀ (l .done)
   unfolding faultsFrom functionsFrom
   program-end {s} {table} {t} {at} lt q = record {
-    by = λ y. let p = q y in let e = no-declaration (p .rest) (p .ends) lt in let fe : p .found ≡ faultsFrom text begin (y .program)
+    by = λ y. let p = q y in let e = no-declaration (p .left-over .rest) (p .left-over .ends) lt in
+        let fe : p .found ≡ faultsFrom text begin (y .program)
         = cc (append-nil (p .found)) in
         let me : p .made ≡ functionsFrom text begin (y .program) = cc (append-nil (p .made)) in let r = yields-as
         (2 * length (encodeProgram (y .program))) fe me (omega arith) (p .yields) in
@@ -214,6 +182,6 @@ module _ (text t₀ : List ℕ) {s₀ table₀ : List ℕ} {base end left string
           fits = r .fits;
           starting = λ c. rw me at (p .starting (fe ∙ c));
           long = p .stands .free .long;
-          keeps = p .keeps;
+          keeps = p .left-over .keeps;
         };
   }

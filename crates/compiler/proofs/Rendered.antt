@@ -1,12 +1,12 @@
 -- The text as lines; globals in scope.
-use Rattle.laws.proofs.Basics.{ℕ, _<_, _≡_, refl, ap, _∙_, List, [], _∷_, _++_, append-assoc, Bool, true, false, cond, arith}
-use Rattle.laws.proofs.Cases.{contradiction}
+use Rattle.laws.proofs.Basics.{ℕ, _<_, _≡_, refl, ap, _∙_, List, [], _∷_, _++_, append-assoc, arith}
+use Rattle.laws.proofs.Cases.{by-cases, contradiction}
 use Rattle.items.specs.Item.{Item}
 use Rattle.items.specs.Render.{render, renderLines, renderAll}
 use Rattle.writing.specs.Text.{line, lines}
 use Rattle.compiler.proofs.Language.{Name, Scope, lookup, sameName}
 use Rattle.language.specs.Names as N
-use Rattle.compiler.specs.Groups.{Small}
+use Rattle.compiler.proofs.Vocabulary.{Small}
 
 lines-end : (is : List Item) → renderLines is ≡ lines is ++ (90 ∷ 10 ∷ [])
 unfolding renderLines lines line
@@ -23,15 +23,14 @@ pub small-found : (text : List ℕ) (sc : Scope) (n : Name) (m : ℕ) → Small 
 unfolding Small lookup
 small-found text N.outermost n m h e = contradiction cc
 small-found text (N.opened s) n m h e = small-found text s n m h e
-small-found text (N.declared s x w) n m h e = go w h (sameName text x n) e (small-found text s n m)
+small-found text (N.declared s x w) n m h e = by-cases (sameName text x n) (λ b. here w h (rw b at e)) (λ b. small-found text s n m (below w h)
+    (rw b at e))
   where
-    go : (w : N.Meaning) → Small (N.declared s x w) → (b : Bool) → cond b (N.known w) (lookup text s n) ≡ N.known (N.global m)
-        → (Small s → lookup text s n ≡ N.known (N.global m) → m < 400) → m < 400
-    go (N.global k) h true e ih = let z : k ≡ m = cc in omega arith
-    go (N.global k) h false e ih = ih (h .1) e
-    go (N.local k) h true e ih = contradiction cc
-    go (N.local k) h false e ih = ih h e
-    go (N.manifest k) h true e ih = contradiction cc
-    go (N.manifest k) h false e ih = ih h e
-    go (N.function k) h true e ih = contradiction cc
-    go (N.function k) h false e ih = ih h e
+    here : (w : N.Meaning) → Small (N.declared s x w) → N.known w ≡ N.known (N.global m) → m < 400
+    here (N.global k) h e = let z : k ≡ m = cc in omega arith
+    here (N.local k) h e = contradiction cc
+    here (N.manifest k) h e = contradiction cc
+    here (N.function k) h e = contradiction cc
+
+    below : (w : N.Meaning) → Small (N.declared s x w) → Small s
+    below = elim [ N.global k ↦ λ h. h .1 | N.local k ↦ λ h. h | N.manifest k ↦ λ h. h | N.function k ↦ λ h. h ]

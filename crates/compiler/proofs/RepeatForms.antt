@@ -5,27 +5,23 @@ use Rattle.items.specs.Item as I
 use Rattle.language.specs.Kinds as K
 use Rattle.language.specs.Tree as T
 use Rattle.compiler.proofs.Language.{Expression, Unlabelled, Repeats, depth, repeatsDepth, Scope, Fault, expression, repeats, unlabelled}
-use Rattle.compiler.proofs.Language.{FineRepeats, Leavable, inExpression, inUnlabelled, inRepeats, encode, encodeUnlabelled, encodeRepeats}
+use Rattle.compiler.proofs.Language.{FineRepeats, Leavable, inExpression, inRepeats, encode, encodeUnlabelled, encodeRepeats}
 use Rattle.code.specs.Generate as G
 use Rattle.language.specs.Faults as Y
 use Rattle.tree.specs.Encoding as O
 use Rattle.compiler.proofs.Vocabulary.{Keeps, State, Here, Ways, Node, FineE, FinePlain, FineRs, inLoop, leavable, leavableBy, exits, NodeAt}
-use Rattle.compiler.proofs.Vocabulary.{Code, Did, Emits, Fresh, Lies, Ready, Result, GaveE, Counts}
-use Rattle.compiler.proofs.Scoping.{keeps-all, keeps-then}
+use Rattle.compiler.proofs.Vocabulary.{Code, Did, Emits, Fresh, Lies, Ready, GaveE, Counts, cmdSays, ReadyU, GaveU, encodeRepeated, ReadyR}
+use Rattle.compiler.proofs.Vocabulary.{GaveR, ReadyForms, GaveForms, formSays, ReadyForm, GaveForm}
+use Rattle.compiler.proofs.Common.{keeps-all, keeps-then, emits-did, did-none, did-put, did-after, did-then, did-as, did-at, did-fresh}
+use Rattle.compiler.proofs.Common.{same-refl, same-eq, code-is, kind-is, TwoAt, two-at, sub, First, first-of, Kind, Part, begins, item}
+use Rattle.compiler.proofs.Common.{one-size, one-word, rest-length, both-deep, both-fine, goes-on, ended, any-expression}
 use Rattle.compiler.specs.Repeats.{forms, conditions, topsCode, formsCode, formsHeights, formsLabels, formsSays, innermost}
-use Rattle.compiler.specs.Commands.{cmdSays, ReadyU, GaveU, encodeRepeated, ReadyR, GaveR, ReadyForms, GaveForms, formSays, ReadyForm, GaveForm}
-use Rattle.compiler.proofs.Done.{emits-did, did-none, did-put, did-after, did-then, did-as, did-at, did-fresh, same-refl, same-eq, code-is}
-use Rattle.compiler.proofs.Trees.{first, second, kid, ends, value-is, size-is, kind-is}
-use Rattle.compiler.proofs.Parts.{sub}
-use Rattle.compiler.proofs.Lists.{First, first-of, Kind, Part, begins, item, one-size, one-word, rest-length, both-deep, both-fine, goes-on}
-use Rattle.compiler.proofs.Lists.{ended}
-use Rattle.compiler.proofs.Anywhere.{any-expression}
 use Rattle.compiler.proofs.Guards.{expression-closed}
 use Rattle.compiler.proofs.Labelled.{closed-long}
 use Rattle.compiler.proofs.Counting.{repeat-items}
 use Rattle.compiler.proofs.Conditions.{leaves-loop}
 use Rattle.compiler.proofs.Repeating.{repeats-code, repeats-heights, repeats-labels}
-use Rattle.compiler.proofs.Forms.{form-of, form-small}
+use Rattle.compiler.proofs.Forms.{form-of}
 
 -- ---- one form
 
@@ -34,24 +30,19 @@ pub data AForm : Type 0 where
   onTest : (word : ℕ) → Expression → AForm
 
 abbrev pub withForm : AForm → Repeats → Repeats
-withForm alone rs = T.repeat rs
-withForm (onTest w e) rs = T.repeatOn w e rs
+withForm = elim [ alone ↦ T.repeat | onTest w e ↦ T.repeatOn w e ]
 
 abbrev pub formEncoding : AForm → List ℕ
-formEncoding alone = []
-formEncoding (onTest w e) = encode e
+formEncoding = elim [ alone ↦ [] | onTest w e ↦ encode e ]
 
 abbrev pub formWord : AForm → ℕ
-formWord alone = K.REPEAT
-formWord (onTest w e) = w
+formWord = elim [ alone ↦ K.REPEAT | onTest w e ↦ w ]
 
 abbrev pub formDepth : AForm → ℕ
-formDepth alone = 0
-formDepth (onTest w e) = depth e
+formDepth = elim [ alone ↦ 0 | onTest w e ↦ depth e ]
 
 abbrev pub FineForm : AForm → Type 0
-FineForm alone = Unit {0}
-FineForm (onTest w e) = FineE e
+FineForm = elim [ alone ↦ Unit {0} | onTest w e ↦ FineE e ]
 
 abbrev pub formFaults : List ℕ → Scope → Here → AForm → List Fault
 formFaults text sc x alone = []
@@ -76,13 +67,11 @@ no-form (T.repeatOn w d rs) e = absurd (omega arith)
 
 pub form-deep : (f : AForm) (rs : Repeats) (k : ℕ) → repeatsDepth (withForm f rs) ≤ k → (formDepth f ≤ k) × (repeatsDepth rs ≤ k)
 unfolding repeatsDepth
-form-deep alone rs k l = (omega arith, l)
-form-deep (onTest w e) rs k l = (omega arith, omega arith)
+form-deep = elim [ alone ↦ λ rs k l. (omega arith, l) | onTest w e ↦ λ rs k l. (omega arith, omega arith) ]
 
 pub form-fine : (f : AForm) (rs : Repeats) → FineRs (withForm f rs) → FineForm f × FineRs rs
 unfolding FineRepeats
-form-fine alone rs p = (tt, p)
-form-fine (onTest w e) rs p = p
+form-fine = elim [ alone ↦ λ rs p. (tt, p) | onTest w e ↦ λ rs p. p ]
 
 abbrev pub formList : Kind Repeats AForm
 formList = record {
@@ -103,14 +92,12 @@ formList = record {
 
 form-conditions : (f : AForm) (rs : Repeats) → conditions (withForm f rs) ≡ length (formEncoding f) + conditions rs
 unfolding conditions
-form-conditions alone rs = omega arith
-form-conditions (onTest w e) rs = refl
+form-conditions = elim [ alone ↦ λ rs. omega arith | onTest w e ↦ λ rs. refl ]
 
 form-faults : (text : List ℕ) (sc : Scope) (x : Here) (f : AForm) (rs : Repeats)
     → inRepeats text sc (leavable x) (x .height) (withForm f rs) ≡ formFaults text sc x f ++ inRepeats text sc (leavable x) (x .height) rs
 unfolding inRepeats
-form-faults text sc x alone rs = refl
-form-faults text sc x (onTest w e) rs = refl
+form-faults text sc x = elim [ alone ↦ λ rs. refl | onTest w e ↦ λ rs. refl ]
 
 -- its code between its labels, and then that of the others
 form-code : (text : List ℕ) (x : Here) (sc : Scope) (own n : ℕ) (f : AForm) (rs : Repeats) → let c = oneSays text x sc own f n in
@@ -120,9 +107,7 @@ form-code : (text : List ℕ) (x : Here) (sc : Scope) (own n : ℕ) (f : AForm) 
       labels = c .labels + formsLabels text sc (x .height) rs;
     }) (formsSays text x sc own (withForm f rs) n)
 unfolding formsCode formsHeights formsLabels
-form-code text x sc own n alone rs =
-    let a : n + 0 ≡ n = omega arith in
-    code-is (rw a) refl (omega arith)
+form-code text x sc own n alone rs = let a : n + 0 ≡ n = omega arith in code-is (rw a) refl (omega arith)
 form-code text x sc own n (onTest w e) rs =
     let E = G.exprCode (x .strings) (x .height) n (expression text sc (x .height) e) in let J = G.jumpWhen (eqb w K.REPEATWHILE) own in
     let F = formsCode text sc (x .strings) (x .height) (own - 3) rs (n + G.exprLabels (expression text sc (x .height) e)) in
@@ -140,70 +125,55 @@ module _ (text t₀ : List ℕ) (own₀ : ℕ) {s₀ : List ℕ} {from end : ℕ
   forms-begin y = begins (y .ready) (y .starts) refl refl (y .some)
 
   module _ {s t : List ℕ} {at size word next own : ℕ} {st : State} (l : at < end) (es : size ≡ getD s at 0) (ew : word ≡ getD s (at + 1) 0)
-      (en : next ≡ at + 2 + size) (y : ReadyForms s₀ from end here st₀) (p : FormsPart y s t at own st) where
-    abbrev pub one : First encodeRepeats formEncoding formWord withForm s₀ at end (p .rest)
-    one = item (y .ready) (y .starts) l es en p
-
-    pub forms-size : size ≡ length (formEncoding (one .part))
-    forms-size = one-size (y .ready) (y .starts) l es en p
-
-    pub forms-conditions : conditions (p .rest) ≡ length (formEncoding (one .part)) + conditions (one .more)
-    forms-conditions = ap conditions (one .same) ∙ form-conditions (one .part) (one .more)
-
-    module _ {a : State} (el : a .label ≡ st .label) where
-      -- what stands there, as its test's expression
-      abbrev ready-test : (w : ℕ) (e : Expression) → one .part ≡ onTest w e → Ready encode depth FineE s next here a
-      ready-test w e q = let z = y .ready in let h = rw q at (one .lies) in let m : length (formEncoding (one .part)) ≡ length (encode e)
-          = rw q in
-          sub z (p .keeps) h refl (omega (
-            arith,
-            forms-size,
-            one .ends,
-            rest-length z (y .starts) l es en p,
-            forms-conditions,
-            rw q at (both-deep z (y .starts) l es en p .0),
-          )) (subst FineForm q (both-fine z (y .starts) l es en p .0))
-
-      ready-form : ReadyForm s next size here a
-      ready-form = record { on = λ n. by n (one .part) refl }
-        where
-          by : (size ≡ 0 → ⊥) → (f : AForm) → one .part ≡ f → Ready encode depth FineE s next here a
-          by n alone q = absurd (n (rw (forms-size, q)))
-          by n (onTest w e) q = ready-test w e q
-
-      -- what it did
-      form-did : {s₁ t₁ t₂ : List ℕ} {b : State} → GaveForm text s s₁ next size word own here t₁ t₂ a b →
-          Keeps (y .ready .base) (here .top) s s₁ × Did (formFaults text (y .ready .scope) here (one .part))
-          (oneSays text here (y .ready .scope) own (one .part)) (2 * length (formEncoding (one .part))) t₁ t₂ a b
-      form-did {s₁} {t₁} {t₂} {b} g = by (one .part) refl
-        where
-          by : (f : AForm) → one .part ≡ f
-              → Keeps (y .ready .base) (here .top) s s₁ × Did (formFaults text (y .ready .scope) here f) (oneSays text here (y .ready .scope) own f)
-              (2 * length (formEncoding f)) t₁ t₂ a b
-          by alone q =
-              let x = g .plain (rw (forms-size, q)) in (
-                rw (x .0) keeps-all,
-                did-as _ _ (emits-did _ (x .1) (λ n. refl)) same-refl (λ n e. refl) (omega arith),
-              )
-          by (onTest w e) q =
-              let m : length (formEncoding (one .part)) ≡ length (encode e) = rw q in
-              let x = g .on (λ n. omega (arith, n, forms-size, m, closed-long (expression-closed e))) .by (ready-test w e q) in (
-                x .keeps,
-                rw (← (one-word (y .ready) (y .starts) l es en p ew ∙ ap formWord q)) (x .did),
-              )
-
-  module _ {s t : List ℕ} {at size word next own : ℕ} {st : State} (l : at < end) (es : size ≡ getD s at 0) (ew : word ≡ getD s (at + 1) 0)
       (en : next ≡ at + 2 + size) where
+    module _ (y : ReadyForms s₀ from end here st₀) (p : FormsPart y s t at own st) where
+      abbrev pub one : First encodeRepeats formEncoding formWord withForm s₀ at end (p .rest)
+      one = item (y .ready) (y .starts) l es en p
+
+      pub forms-size : size ≡ length (formEncoding (one .part))
+      forms-size = one-size (y .ready) (y .starts) l es en p
+
+      pub forms-conditions : conditions (p .rest) ≡ length (formEncoding (one .part)) + conditions (one .more)
+      forms-conditions = ap conditions (one .same) ∙ form-conditions (one .part) (one .more)
+
+      module _ {a : State} (el : a .label ≡ st .label) where
+        -- what stands there, as its test's expression
+        abbrev ready-test : (w : ℕ) (e : Expression) → one .part ≡ onTest w e → Ready encode depth FineE s next here a
+        ready-test w e q = let z = y .ready in let h = rw q at (one .lies) in let d = rw q at (both-deep z (y .starts) l es en p .0) in
+            let m : length (formEncoding (one .part)) ≡ length (encode e) = rw q in
+            sub z (p .keeps) h refl (omega (arith, forms-size, one .ends, rest-length z (y .starts) l es en p, forms-conditions, d))
+            (subst FineForm q (both-fine z (y .starts) l es en p .0))
+
+        ready-form : ReadyForm s next size here a
+        ready-form = record {
+          on = λ n. elim (one .part) as (λ f. one .part ≡ f → Ready encode depth FineE s next here a)
+              [ alone ↦ λ q. absurd (n (rw (forms-size, q))) | onTest w e ↦ λ q. ready-test w e q ] refl;
+        }
+
+        -- what it did
+        form-did : {s₁ t₁ t₂ : List ℕ} {b : State} → GaveForm text s s₁ next size word own here t₁ t₂ a b →
+            Keeps (y .ready .base) (here .top) s s₁ × Did (formFaults text (y .ready .scope) here (one .part))
+            (oneSays text here (y .ready .scope) own (one .part)) (2 * length (formEncoding (one .part))) t₁ t₂ a b
+        form-did {s₁} {t₁} {t₂} {b} g = by (one .part) refl
+          where
+            by : (f : AForm) → one .part ≡ f
+                → Keeps (y .ready .base) (here .top) s s₁ × Did (formFaults text (y .ready .scope) here f) (oneSays text here (y .ready .scope) own f)
+                (2 * length (formEncoding f)) t₁ t₂ a b
+            by alone q = let x = g .plain (rw (forms-size, q)) in
+                (rw (x .0) keeps-all, did-as _ _ (emits-did _ (x .1) (λ n. refl)) same-refl (λ n e. refl) (omega arith))
+            by (onTest w e) q = let m : length (formEncoding (one .part)) ≡ length (encode e) = rw q in
+                let x = g .on (λ n. omega (arith, n, forms-size, m, closed-long (expression-closed e))) .by (ready-test w e q) in
+                (x .keeps, rw (← (one-word (y .ready) (y .starts) l es en p ew ∙ ap formWord q)) (x .did))
+
     pub forms-part : {a : State} → a .label ≡ st .label → (y : ReadyForms s₀ from end here st₀) → FormsPart y s t at own st
         → ReadyForm s next size here a
-    forms-part el y p = ready-form l es ew en y p el
+    forms-part el y p = ready-form y p el
 
     pub forms-next : {s₁ t₁ t₂ t₃ : List ℕ} {own′ : ℕ} {a b r : State} → Emits (I.label (own + 1) ∷ []) [] t t₁ st a
         → GaveForm text s s₁ next size word own here t₁ t₂ a b → Emits (I.label (own + 2) ∷ []) [] t₂ t₃ b r
         → own′ ≡ own - 3 → (y : ReadyForms s₀ from end here st₀) → FormsPart y s t at own st → FormsPart y s₁ t₃ next own′ r
-    forms-next m₁ g m₂ eo y p =
-        let z = y .ready in let u = one l es ew en y p in let x = form-did l es ew en y p (m₁ .label) g in let sc = z .scope in
-        let n = forms-conditions l es ew en y p in
+    forms-next m₁ g m₂ eo y p = let z = y .ready in let u = one y p in let x = form-did y p (m₁ .label) g in let sc = z .scope in
+        let n = forms-conditions y p in
         goes-on z (y .starts) l es en p (x .0) (omega arith) (omega arith) (omega arith)
         (λ t′ st′ d. did-as _ _ (did-then (did-put (did-after m₁ (x .1)) m₂) (rw eo at d))
         (same-eq (sym (form-faults text sc here (u .part) (u .more)))) (λ k c. form-code text here sc own k (u .part) (u .more)) (omega arith))
@@ -229,44 +199,19 @@ form-tested text {t₁ = t₁} {t₂} {own = own} {a = a} {r} n g ej f = record 
 
 -- ---- a command with REPEAT forms
 
-pub record IsRepeated (s : List ℕ) (lo end : ℕ) (u : Unlabelled) (rs : Repeats) : Type 0 where
-  pub some : 1 ≤ forms rs
-  pub lies : Lies s lo (encodeUnlabelled u)
-  pub lies-forms : Lies s (lo + length (encodeUnlabelled u)) (encodeRepeats rs)
-  pub value-of : getD s (end - 3) 0 ≡ length (encodeUnlabelled u)
-  pub size-of : getD s (end - 4) 0 ≡ length (encodeUnlabelled u) + length (encodeRepeats rs)
-  pub ends : end ≡ lo + length (encodeUnlabelled u) + length (encodeRepeats rs) + 4
-
-repeated-of : {s : List ℕ} {lo end : ℕ} (u : Unlabelled) (rs : Repeats) → 1 ≤ forms rs
-    → Lies s lo (O.closed (encodeUnlabelled u ++ encodeRepeats rs) (length (encodeUnlabelled u)) 0 O.REPEATED)
-    → end ≡ lo + length (O.closed (encodeUnlabelled u ++ encodeRepeats rs) (length (encodeUnlabelled u)) 0 O.REPEATED) → IsRepeated s lo end u rs
-repeated-of {lo = lo} u rs k h e =
-    let x = encodeUnlabelled u in let y = encodeRepeats rs in
-    record {
-      some = k;
-      lies = first x y (kid (x ++ y) (length x) 0 O.REPEATED h e);
-      lies-forms = second x y (lo + length x) (kid (x ++ y) (length x) 0 O.REPEATED h e) refl;
-      value-of = value-is (x ++ y) (length x) 0 O.REPEATED h e;
-      size-of = size-is (x ++ y) (length x) 0 O.REPEATED h e ∙ length-append x y;
-      ends = omega (arith, ends (x ++ y) (length x) 0 O.REPEATED h e, length-append x y);
-    }
-
 is-repeated : {s : List ℕ} {lo end : ℕ} (u : Unlabelled) (rs : Repeats) → FinePlain u → Lies s lo (O.repeated (encodeUnlabelled u) (encodeRepeats rs))
-    → end ≡ lo + length (O.repeated (encodeUnlabelled u) (encodeRepeats rs)) → getD s (end - 1) 0 ≡ O.REPEATED → IsRepeated s lo end u rs
+    → end ≡ lo + length (O.repeated (encodeUnlabelled u) (encodeRepeats rs)) → getD s (end - 1) 0 ≡ O.REPEATED
+    → (1 ≤ forms rs) × TwoAt s lo end (encodeUnlabelled u) (encodeRepeats rs)
 unfolding O.repeated encodeRepeats forms
-is-repeated {s} {lo} {end} u T.noRepeats f h e q = absurd (omega (arith, form-small s lo end (form-of s lo end u f h e)))
-is-repeated u (T.repeat rs) f h e q = repeated-of u (T.repeat rs) (omega arith) h e
-is-repeated u (T.repeatOn w d rs) f h e q = repeated-of u (T.repeatOn w d rs) (omega arith) h e
-
-pub record IsOnce (s : List ℕ) (lo end : ℕ) (u : Unlabelled) (rs : Repeats) : Type 0 where
-  pub same : rs ≡ T.noRepeats
-  pub lies : Lies s lo (encodeUnlabelled u)
-  pub ends : end ≡ lo + length (encodeUnlabelled u)
+is-repeated {s} {lo} {end} u T.noRepeats f h e q = elim (rw q at (form-of s lo end u f h e)) [ ]
+is-repeated u (T.repeat rs) f h e q = (omega arith, two-at (encodeUnlabelled u) (encodeRepeats (T.repeat rs)) 0 O.REPEATED h e)
+is-repeated u (T.repeatOn w d rs) f h e q = (omega arith, two-at (encodeUnlabelled u) (encodeRepeats (T.repeatOn w d rs)) 0 O.REPEATED h e)
 
 is-once : {s : List ℕ} {lo end : ℕ} (u : Unlabelled) (rs : Repeats) → Lies s lo (O.repeated (encodeUnlabelled u) (encodeRepeats rs))
-    → end ≡ lo + length (O.repeated (encodeUnlabelled u) (encodeRepeats rs)) → (getD s (end - 1) 0 ≡ O.REPEATED → ⊥) → IsOnce s lo end u rs
+    → end ≡ lo + length (O.repeated (encodeUnlabelled u) (encodeRepeats rs)) → (getD s (end - 1) 0 ≡ O.REPEATED → ⊥)
+    → (rs ≡ T.noRepeats) × (O.repeated (encodeUnlabelled u) (encodeRepeats rs) ≡ encodeUnlabelled u)
 unfolding O.repeated encodeRepeats
-is-once u T.noRepeats h e q = record { same = refl; lies = h; ends = e }
+is-once u T.noRepeats h e q = (refl, refl)
 is-once u (T.repeat rs) h e q =
     absurd (q (kind-is (encodeUnlabelled u ++ encodeRepeats (T.repeat rs)) (length (encodeUnlabelled u)) 0 O.REPEATED h e))
 is-once u (T.repeatOn w d rs) h e q =
@@ -299,7 +244,8 @@ innermost-is n (suc k) own ways l e = let q : own ≡ n + 3 * k = omega arith in
 
 module _ {s : List ℕ} {end : ℕ} {here : Here} {st : State} (n : Node) (nd : NodeAt s end n) (q : n .kind ≡ O.REPEATED) {middle : ℕ}
     (m : middle ≡ n .start + n .value) where
-  pub repeated-is : (y : ReadyR s end here st) → IsRepeated s (y .lo) end (y .tree .body) (y .tree .forms)
+  pub repeated-is : (y : ReadyR s end here st) → let r = y .tree in
+      (1 ≤ forms (r .forms)) × TwoAt s (y .lo) end (encodeUnlabelled (r .body)) (encodeRepeats (r .forms))
   repeated-is y = is-repeated (y .tree .body) (y .tree .forms) (y .fine .0) (y .lies) (y .ends) (sym (nd .kind) ∙ q)
 
   pub repeated-middle : (y : ReadyR s end here st) → middle ≡ y .lo + length (encodeUnlabelled (y .tree .body))
@@ -308,24 +254,23 @@ module _ {s : List ℕ} {end : ℕ} {here : Here} {st : State} (n : Node) (nd : 
   module _ {k : ℕ} (c : Counts s middle (n .inner) k) where
     pub repeated-count : (y : ReadyR s end here st) → k ≡ forms (y .tree .forms)
     repeated-count y = let u = repeated-is y in
-        c .by (forms (y .tree .forms)) (repeat-items (y .tree .forms) (rw (repeated-middle y) (u .lies-forms)) (omega (arith, repeated-middle y)))
+        c .by (forms (y .tree .forms)) (repeat-items (y .tree .forms) (rw (repeated-middle y) (u .1 .lies-list)) (omega (arith, repeated-middle y)))
 
     pub repeated-few : (y : ReadyR s end here st) → (1 ≤ k) × (st .label + 3 * k + 3 ≤ 2 ^ 29)
-    repeated-few y =
-        let u = repeated-is y in
+    repeated-few y = let u = repeated-is y in
         (omega (arith, repeated-count y), omega (arith, repeated-count y, forms-entries (y .tree .forms)))
 
     module _ {a b : State} {t t₁ : List ℕ} (e : Fresh (3 * k) st a) (f : Emits (topsCode (st .label) k) [] t t₁ a b) where
       abbrev pub repeated-body : ReadyR s end here st → ReadyU s middle here b
       repeated-body y = let u = repeated-is y in
-          sub y keeps-all (u .lies) refl (omega (arith, repeated-middle y, repeated-count y, forms-entries (y .tree .forms))) (y .fine .0)
+          sub y keeps-all (u .1 .lies) refl (omega (arith, repeated-middle y, repeated-count y, forms-entries (y .tree .forms))) (y .fine .0)
 
       module _ (text : List ℕ) (ways : Ways) {own : ℕ} (eo : own ≡ st .label + 3 * k - 3) {s₁ t₂ : List ℕ} {d : State}
           (g : GaveU text s s₁ middle here (inLoop (own + 1) (own + 2) ways) t₁ t₂ b d) where
         abbrev pub repeated-forms : ReadyR s end here st → ReadyForms s₁ middle (n .inner) here d
         repeated-forms y = let u = repeated-is y in let x = g .by (repeated-body y) in record {
           before = st;
-          ready = sub y (x .keeps) (u .lies-forms) refl (omega arith) (y .fine .1);
+          ready = sub y (x .keeps) (u .1 .lies-list) refl (omega arith) (y .fine .1);
           starts = sym (repeated-middle y);
           label = omega (arith, repeated-count y, forms-entries (y .tree .forms));
           some = omega arith;
@@ -338,8 +283,8 @@ module _ {s : List ℕ} {end : ℕ} {here : Here} {st : State} (n : Node) (nd : 
               let h = here .height in let S = here .strings in let L = st .label in let rs = y .tree .forms in let C = unlabelled text sc h
               (y .tree .body) in let lv = leavableBy ways here in let N = L + 3 * k in let ek = repeated-count y in let l₁ : leavableBy
               (inLoop (own + 1) (own + 2) ways) here ≡ Y.repeated rs lv = leaves-loop here ways (own + 1) (own + 2) (omega arith)
-              ∙ sym (forms-leave rs lv (u .some)) in let ei : exits (inLoop (own + 1) (own + 2) ways) ≡ innermost L (forms rs) (exits ways)
-              = innermost-is L (forms rs) own ways (u .some) (rw (eo, ek)) in
+              ∙ sym (forms-leave rs lv (u .0)) in let ei : exits (inLoop (own + 1) (own + 2) ways) ≡ innermost L (forms rs) (exits ways)
+              = innermost-is L (forms rs) own ways (u .0) (rw (eo, ek)) in
               record {
                 keeps = keeps-then (x .keeps) (z .keeps);
                 did = did-at (cmdSays here ways (repeats text sc h C rs)) _ (did-fresh e (did-after f (did-then (x .did) (z .did))))
@@ -352,19 +297,16 @@ module _ {s : List ℕ} {end : ℕ} {here : Here} {st : State} (n : Node) (nd : 
         }
 
 module _ {s : List ℕ} {end : ℕ} {here : Here} {st : State} (n : Node) (nd : NodeAt s end n) (q : n .kind ≡ O.REPEATED → ⊥) where
-  pub once-is : (y : ReadyR s end here st) → IsOnce s (y .lo) end (y .tree .body) (y .tree .forms)
+  pub once-is : (y : ReadyR s end here st) → (y .tree .forms ≡ T.noRepeats) × (encodeRepeated (y .tree) ≡ encodeUnlabelled (y .tree .body))
   once-is y = is-once (y .tree .body) (y .tree .forms) (y .lies) (y .ends) (λ e. q (nd .kind ∙ e))
 
   abbrev pub once-part : ReadyR s end here st → ReadyU s end here st
-  once-part y = let u = once-is y in sub y keeps-all (u .lies) refl (omega arith) (y .fine .0)
+  once-part y = let e = once-is y .1 in sub y keeps-all (rw e at (y .lies)) refl (omega (arith, ap length e)) (y .fine .0)
 
   pub once-gave : (text : List ℕ) (ways : Ways) {s₁ t t₁ : List ℕ} {r : State} → GaveU text s s₁ end here ways t t₁ st r
       → GaveR text s s₁ end here ways t t₁ st r
-  unfolding inRepeats repeats
-  once-gave text ways {s₁} {t} {t₁} {r} g = record {
-    by = λ y. let u = once-is y in let x = g .by (once-part y) in let sc = y .scope in let h = here .height in let lv = leavableBy ways here in
-        let U = y .tree .body in
-        subst (λ (rs : Repeats). Result (inUnlabelled text sc (Y.repeated rs lv) h U ++ inRepeats text sc lv h rs)
-        (cmdSays here ways (repeats text sc h (unlabelled text sc h U) rs)) (length (encodeRepeated (y .tree))) (y .base) here s s₁ t t₁ st r)
-        (sym (u .same)) (record { keeps = x .keeps; did = did-as _ _ (x .did) (same-eq (sym (append-nil _))) (λ k v. refl) (omega arith) });
+  unfolding inRepeats repeats O.repeated encodeRepeats
+  once-gave text ways g = record {
+    by = λ y. let x = g .by (once-part y) in rw (once-is y .0)
+        (record { keeps = x .keeps; did = did-as _ _ (x .did) (same-eq (sym (append-nil _))) (λ k v. refl) (omega arith) });
   }

@@ -1,81 +1,52 @@
 -- Items of a list by their ends: the loop over them; labels, one by one and before each command of a list; BY's constant.
-use Rattle.laws.proofs.Basics.{ℕ, _+_, _-_, _^_, _<_, _≤_, _≡_, refl, sym, ap, _∙_, List, [], _∷_, _++_, append-nil, Bool, true, false, cond, Option}
-use Rattle.laws.proofs.Basics.{some, none, length, getD, length-append, eqb, arith, eq-eqb, ne-eqb}
+use Rattle.laws.proofs.Basics.{ℕ, _+_, _-_, _^_, _<_, _≤_, _≡_, refl, sym, ap, _∙_, List, [], _∷_, _++_, append-nil, Bool, true, false, cond, some}
+use Rattle.laws.proofs.Basics.{none, length, getD, length-append, eqb, arith, eq-eqb, ne-eqb}
 use Rattle.language.specs.Tree as T
-use Rattle.compiler.proofs.Language.{Simple, Constant, Label, Scope, fault, Judged, good, refused, judge, within, faultsOf, misplaced}
-use Rattle.compiler.proofs.Language.{FineConstant, FineBy, FineLabels, closed, encodeName, encodeConstant, encodePositive, encodeNegative}
-use Rattle.compiler.proofs.Language.{encodeBy, encodeLabels}
-use Rattle.compiler.proofs.Vocabulary.{Shows, State, Node, NodeAt, Did, Faulted, Lies}
-use Rattle.compiler.specs.declared.steps.Verdict.{Verdict}
+use Rattle.compiler.proofs.Language.{Simple, Constant, Label, Scope, fault, judge, faultsOf, misplaced, FineConstant, FineLabels, closed}
+use Rattle.compiler.proofs.Language.{encodeName, encodeConstant, encodePositive, encodeNegative, encodeBy, encodeLabels}
+use Rattle.compiler.proofs.Vocabulary.{Shows, State, Node, NodeAt, Did, Faulted, Lies, Verdict, JudgesBy, byJudged, ReadyMisplaced, Misplaces}
 use Rattle.compiler.specs.Commands.{nothing}
-use Rattle.compiler.specs.Locals.{Says, fit, unfit, Judges, Blames}
-use Rattle.compiler.specs.Switching.{JudgesBy, byJudged, ReadyMisplaced, Misplaces}
+use Rattle.compiler.specs.Locals.{Says, fit, Judges, Blames}
 use Rattle.compiler.specs.Labels.{Row, noMore, andMore, NextItem, LabelAt, aCase, aDefault, MisplacesLabel}
-use Rattle.compiler.proofs.Done.{did-none, did-then, did-as, same-eq}
-use Rattle.compiler.proofs.Trees.{first, second, kid, ends, place-is, kind-is}
-use Rattle.compiler.proofs.Judging.{place-there}
+use Rattle.compiler.proofs.Common.{did-none, did-then, did-as, same-eq, first, second, kid, ends, place-is, kind-is}
+use Rattle.compiler.proofs.Judging.{place-there, within-passes, within-fails}
 
 -- ---- the constant of BY
 
-positive-long : (p : ℕ) (x : Simple) → 0 < length (encodePositive p x)
-unfolding encodePositive encodeName
-positive-long p (T.literal v) = omega arith
-positive-long p (T.known n) = omega arith
-
-negative-long : (p : ℕ) (x : Simple) → 0 < length (encodeNegative p x)
-unfolding encodeNegative encodeName
-negative-long p (T.literal v) = omega arith
-negative-long p (T.known n) = omega arith
-
 constant-long : (c : Constant) → 0 < length (encodeConstant c)
-unfolding encodeConstant
-constant-long c = go (c .minus)
+unfolding encodeConstant encodePositive encodeNegative encodeName
+constant-long c = go (c .minus) (c .simple)
   where
-    go : (b : Bool) → 0 < length (cond b (encodeNegative (c .place) (c .simple)) (encodePositive (c .place) (c .simple)))
-    go true = negative-long (c .place) (c .simple)
-    go false = positive-long (c .place) (c .simple)
-
-not-zero : {j : Verdict} (c : Constant) (x : Judged) → (j .number ≡ 0 → j .word ≡ 0 → ⊥) → Says j x
-    → Says j (within c (λ v. cond (eqb v 0) false true) x)
-not-zero {j} c (good v) n (fit q) = rw (ne-eqb (j .word) 0 (n q)) (fit q)
-not-zero c (refused fs) n (unfit a b w) = unfit a b w
-
-a-zero : {j : Verdict} (c : Constant) (x : Judged) {p : ℕ} → j .number ≡ 0 → j .word ≡ 0 → p ≡ c .place → Says j x
-    → Says (record { word = 0; number = 11; place = p }) (within c (λ v. cond (eqb v 0) false true) x)
-a-zero {j} c (good v) {p} e w q (fit z) = rw (eq-eqb (j .word) 0 w) (rw (← q) (unfit refl (λ z. omega arith) refl))
-a-zero c (refused fs) e w q (unfit a b z) = absurd (b (sym a ∙ e))
+    go : (b : Bool) (x : Simple) → 0 < length (cond b (encodeNegative (c .place) x) (encodePositive (c .place) x))
+    go true (T.literal v) = omega arith
+    go true (T.known n) = omega arith
+    go false (T.literal v) = omega arith
+    go false (T.known n) = omega arith
 
 module _ (text : List ℕ) {s : List ℕ} {from end top : ℕ} where
   pub by-none : end ≤ from → JudgesBy text s from end top (record { word = 1; number = 0; place = 0 })
   unfolding encodeBy
-  by-none l = record { fits = (omega arith, omega arith); by = go }
-    where
-      go : (sc : Scope) (k : Option Constant) → Shows s top sc → FineBy k → Lies s from (encodeBy k) → end ≡ from + length (encodeBy k)
-          → Says (record { word = 1; number = 0; place = 0 }) (byJudged text sc k)
-      go sc none sh f h e = fit refl
-      go sc (some c) sh f h e = absurd (omega (arith, constant-long c))
+  by-none l = record {
+    fits = (omega arith, omega arith);
+    by = λ sc. elim [ none ↦ λ sh f h e. fit refl | some c ↦ λ sh f h e. absurd (omega (arith, constant-long c)) ];
+  }
 
   -- whatever a constant there is judged, if there is one
-  judges-by : {r : Verdict} → from < end → (r .place < 2 ^ 32) × (r .number < 32)
-      →
+  judges-by : {r : Verdict} → from < end → (r .place < 2 ^ 32) × (r .number < 32) →
       ((sc : Scope) (c : Constant) → Shows s top sc → FineConstant c → Lies s from (encodeConstant c) → end ≡ from + length (encodeConstant c) → Says
       r (byJudged text sc (some c))) → JudgesBy text s from end top r
   unfolding encodeBy
-  judges-by {r} l f g = record { fits = f; by = go }
-    where
-      go : (sc : Scope) (k : Option Constant) → Shows s top sc → FineBy k → Lies s from (encodeBy k) → end ≡ from + length (encodeBy k)
-          → Says r (byJudged text sc k)
-      go sc none sh f h e = absurd (omega arith)
-      go sc (some c) sh f h e = g sc c sh f h e
+  judges-by l f g = record { fits = f; by = λ sc. elim [ none ↦ λ sh f h e. absurd (omega arith) | some c ↦ λ sh f h e. g sc c sh f h e ] }
 
   module _ {j : Verdict} (l : from < end) (g : Judges text s end top j) where
     pub by-judged : (j .number ≡ 0 → j .word ≡ 0 → ⊥) → JudgesBy text s from end top j
-    by-judged n = judges-by l (g .fits) (λ sc c sh f h e. not-zero c (judge text sc c) n (g .by sc from c sh f h e))
+    by-judged n = judges-by l (g .fits) (λ sc c sh f h e. within-passes c (λ v. cond (eqb v 0) false true) (judge text sc c)
+        (λ z. rw (ne-eqb (j .word) 0 (n z))) (g .by sc from c sh f h e))
 
     pub by-zero : {p e₂ : ℕ} → j .number ≡ 0 → j .word ≡ 0 → e₂ ≡ end - 2 → p ≡ getD s e₂ 0 → p < 2 ^ 32
         → JudgesBy text s from end top (record { word = 0; number = 11; place = p })
-    by-zero n w q e f = judges-by l (f, omega arith) (λ sc c sh fine h en. a-zero c (judge text sc c) n w (rw (e, q, place-there c fine h en))
-        (g .by sc from c sh fine h en))
+    by-zero n w q e f = judges-by l (f, omega arith) (λ sc c sh fine h en. within-fails c (λ v. cond (eqb v 0) false true) (judge text sc c)
+        (λ z. n) (rw (eq-eqb (j .word) 0 w)) (rw (e, q, place-there c fine h en)) (g .by sc from c sh fine h en))
 
 -- ---- the loop over items
 
@@ -107,8 +78,7 @@ module _ {A : Type 0} {P : ℕ → A → Type 0} {s : List ℕ} {end : ℕ} wher
 -- ---- labels stand in a row
 
 pub an-item : {s : List ℕ} {at end tag : ℕ} (w rest : List ℕ) → Lies s at (length w ∷ tag ∷ (w ++ rest))
-    → end ≡ at + length (length w ∷ tag ∷ (w ++ rest)) → {T : Type 0}
-    →
+    → end ≡ at + length (length w ∷ tag ∷ (w ++ rest)) → {T : Type 0} →
     (at + 2 + getD s at 0 ≡ at + 2 + length w → Lies s (at + 2) w → Lies s (at + 2 + getD s at 0) rest → end ≡ at + 2 + getD s at 0 + length rest → T)
     → T
 an-item {s} {at} {end} {tag} w rest h e f =
@@ -142,21 +112,21 @@ twelve nd w e t = rw (nd .place ∙ e) at (w .by nothing t)
 module _ (text : List ℕ) {s : List ℕ} {end top : ℕ} {st : State} (n : Node) (nd : NodeAt s end n) {a : State} (w : Faulted (n .place) 12 st a) where
   pub misplaced-default : (n .kind ≡ 28 → ⊥) → MisplacesLabel text s end top st a
   unfolding misplaced
-  misplaced-default q = record { by = go }
-    where
-      go : (sc : Scope) (l : Label) → Shows s top sc → LabelAt s end l → (t : List ℕ) → Did (misplaced text sc (l ∷ [])) nothing 0 t t st a
-      go sc (T.case p c) sh (aCase k e h en f) t = absurd (q (nd .kind ∙ k))
-      go sc (T.default p) sh (aDefault k e) t = twelve nd w e t
+  misplaced-default q = record {
+    by = λ sc l sh. elim [ aCase k e h en f ↦ λ t. absurd (q (nd .kind ∙ k)) | aDefault k e ↦ λ t. twelve nd w e t ];
+  }
 
   pub misplaced-case : {j : Verdict} {r : State} → n .kind ≡ 28 → Judges text s (n .inner) top j → Blames j a r → MisplacesLabel text s end top st r
   unfolding misplaced
-  misplaced-case {j} {r} q g b = record { by = go }
-    where
-      go : (sc : Scope) (l : Label) → Shows s top sc → LabelAt s end l → (t : List ℕ) → Did (misplaced text sc (l ∷ [])) nothing 0 t t st r
-      go sc (T.case p c) sh (aCase {lo = lo} k e h en f) t =
-          did-as nothing 0 (did-then (twelve nd w e t) (b .by (judge text sc c) (g .by sc lo c sh f h (nd .inner ∙ en)) t))
-          (same-eq (sym (append-nil _))) (λ v z. refl) (omega arith)
-      go sc (T.default p) sh (aDefault k e) t = absurd (omega arith)
+  misplaced-case q g b = record {
+    by = λ sc l sh. elim [
+      | aCase {lo = lo} {c = c} k e h en f ↦ λ t. did-as nothing 0
+          (did-then (twelve nd w e t) (b .by (judge text sc c) (g .by sc lo c sh f h (nd .inner ∙ en)) t)) (same-eq (sym (append-nil _)))
+          (λ v z. refl)
+          (omega arith)
+      | aDefault k e ↦ λ t. absurd (omega arith)
+    ];
+  }
 
 misplaced-then : (text : List ℕ) (sc : Scope) (l : Label) (ls : List Label)
     → misplaced text sc (l ∷ []) ++ misplaced text sc ls ≡ misplaced text sc (l ∷ ls)
@@ -166,8 +136,7 @@ misplaced-then text sc (T.default p) ls = refl
 
 module _ (text : List ℕ) {s : List ℕ} {from end top : ℕ} (st₀ : State) where
   abbrev pub MisplacedPart : (y : ReadyMisplaced s from end top) (at : ℕ) (st : State) → Type 0
-  MisplacedPart y at st =
-      Left (LabelAt s) s end at
+  MisplacedPart y at st = Left (LabelAt s) s end at
       (λ rest. (t : List ℕ) (st′ : State) → Did (misplaced text (y .scope) rest) nothing 0 t t st st′ → Did (misplaced text (y .scope) (y .labels))
       nothing 0 t t st₀ st′)
 

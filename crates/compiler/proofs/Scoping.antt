@@ -2,6 +2,7 @@
 use Rattle.laws.proofs.Basics.{ℕ, zero, suc, _+_, _-_, _*_, _/_, _%_, _<_, _≤_, min, _≡_, refl, sym, ap, _∙_, List, [], _∷_, Bool, true, false, cond}
 use Rattle.laws.proofs.Basics.{length, getD, set, take, drop, length-set, length-take, length-drop, getD-drop, getD-set-same, getD-set-other, eqb}
 use Rattle.laws.proofs.Basics.{arith, eq-eqb, ne-eqb}
+use Rattle.laws.proofs.Cases.{by-cases, either}
 use native.Mathlib.Numerals.{unary-clauses}
 use Rattle.compiler.proofs.Language.{Name, Meaning, local, global, manifest, function, Found, unknown, known, Scope, opened, declared, lookup}
 use Rattle.compiler.proofs.Language.{inBlock, sameBytes, sameName, FineName}
@@ -9,16 +10,16 @@ use Rattle.compiler.specs.Scope.{named, nameAt, packed, code, found, Wor
 
 -- ---- spelling
 
+never : (t : Bool) → cond t false false ≡ false
+never true = refl
+never false = refl
+
 sameBytes-length : (x y : List ℕ) → (length x ≡ length y → ⊥) → sameBytes x y ≡ false
 unfolding sameBytes
 sameBytes-length [] [] h = absurd (h refl)
 sameBytes-length [] (b ∷ y) h = refl
 sameBytes-length (a ∷ x) [] h = refl
-sameBytes-length (a ∷ x) (b ∷ y) h = rw (sameBytes-length x y (λ e. h (ap suc e))) (both (eqb a b))
-  where
-    both : (t : Bool) → cond t false false ≡ false
-    both true = refl
-    both false = refl
+sameBytes-length (a ∷ x) (b ∷ y) h = rw (sameBytes-length x y (λ e. h (ap suc e)), never)
 
 -- only so many bytes as there are
 cut : (n : ℕ) (x : List ℕ) → take n x ≡ take (min n (length x)) x
@@ -54,25 +55,13 @@ pub same-width : (text : List ℕ) (x place width : ℕ) {t : Bool} → x % 6553
 same-width text x place width h e = cc (eq-eqb (x % 65536) width h)
 
 -- the bytes up to one, by that one
-last-same : (i : ℕ) (x y : List ℕ) → i < length x → i < length y → getD x i 0 ≡ getD y i 0
-    → sameBytes (take (suc i) x) (take (suc i) y) ≡ sameBytes (take i x) (take i y)
+last-byte : (i : ℕ) (x y : List ℕ) → i < length x → i < length y
+    → sameBytes (take (suc i) x) (take (suc i) y) ≡ cond (eqb (getD x i 0) (getD y i 0)) (sameBytes (take i x) (take i y)) false
 unfolding sameBytes
-last-same i [] y a b e = absurd (omega arith)
-last-same i (c ∷ x) [] a b e = absurd (omega arith)
-last-same zero (c ∷ x) (d ∷ y) a b e = rw (eq-eqb c d e) refl
-last-same (suc i) (c ∷ x) (d ∷ y) a b e = ap (λ (t : Bool). cond (eqb c d) t false) (last-same i x y (omega arith) (omega arith) e)
-
-last-differs : (i : ℕ) (x y : List ℕ) → i < length x → i < length y → (getD x i 0 ≡ getD y i 0 → ⊥)
-    → sameBytes (take (suc i) x) (take (suc i) y) ≡ false
-unfolding sameBytes
-last-differs i [] y a b e = absurd (omega arith)
-last-differs i (c ∷ x) [] a b e = absurd (omega arith)
-last-differs zero (c ∷ x) (d ∷ y) a b e = rw (ne-eqb c d e) refl
-last-differs (suc i) (c ∷ x) (d ∷ y) a b e = rw (last-differs i x y (omega arith) (omega arith) e) (both (eqb c d))
-  where
-    both : (t : Bool) → cond t false false ≡ false
-    both true = refl
-    both false = refl
+last-byte i [] y a b = absurd (omega arith)
+last-byte i (c ∷ x) [] a b = absurd (omega arith)
+last-byte zero (c ∷ x) (d ∷ y) a b = refl
+last-byte (suc i) (c ∷ x) (d ∷ y) a b = by-cases (eqb c d) (λ e. rw (e, last-byte i x y (omega arith) (omega arith))) (λ e. rw (e, never))
 
 module _ (text : List ℕ) (p q i : ℕ) (h : 1 ≤ i) (hp : p + i ≤ length text) (hq : q + i ≤ length text) where
   byte : (p : ℕ) → getD text (p + (i - 1)) 0 ≡ getD (drop p text) (i - 1) 0
@@ -89,10 +78,11 @@ module _ (text : List ℕ) (p q i : ℕ) (h : 1 ≤ i) (hp : p + i ≤ length te
 
   pub one-fewer : getD text (p + (i - 1)) 0 ≡ getD text (q + (i - 1)) 0
       → sameBytes (take i (drop p text)) (take i (drop q text)) ≡ sameBytes (take (i - 1) (drop p text)) (take (i - 1) (drop q text))
-  one-fewer e = whole ∙ last-same (i - 1) (drop p text) (drop q text) (within p hp) (within q hq) (sym (byte p) ∙ e ∙ byte q)
+  one-fewer e = whole ∙ last-byte (i - 1) (drop p text) (drop q text) (within p hp) (within q hq) ∙ rw (eq-eqb _ _ (sym (byte p) ∙ e ∙ byte q))
 
   pub differs : (getD text (p + (i - 1)) 0 ≡ getD text (q + (i - 1)) 0 → ⊥) → false ≡ sameBytes (take i (drop p text)) (take i (drop q text))
-  differs e = sym (whole ∙ last-differs (i - 1) (drop p text) (drop q text) (within p hp) (within q hq) (λ z. e (byte p ∙ z ∙ sym (byte q))))
+  differs e = sym (whole ∙ last-byte (i - 1) (drop p text) (drop q text) (within p hp) (within q hq)
+      ∙ rw (ne-eqb _ _ (λ z. e (byte p ∙ z ∙ sym (byte q)))))
 
 pub all-passed : (x y : List ℕ) (i : ℕ) → i ≤ 0 → true ≡ sameBytes (take i x) (take i y)
 unfolding sameBytes
@@ -106,6 +96,38 @@ code-not (local k) e = omega arith
 code-not (global k) e = omega arith
 code-not (manifest k) e = omega arith
 code-not (function k) e = omega arith
+
+-- what a code means, by its remainder
+abbrev meant : (n remainder : ℕ) → Meaning
+meant n zero = function (n - 1)
+meant n (suc zero) = local n
+meant n (suc (suc zero)) = global n
+meant n (suc (suc (suc r))) = manifest n
+
+module _ {m : ℕ} where
+  means : (f : Found) → m ≡ found f → f ≡ cond (eqb m 0) unknown (known (meant (m / 4) (m % 4)))
+  unfolding found code
+  means unknown e = rw e
+  means (known (local k)) e = let a : m / 4 ≡ k = omega arith in let b : m % 4 ≡ 1 = omega arith in rw (ne-eqb m 0 (λ z. omega arith), a, b)
+  means (known (global k)) e = let a : m / 4 ≡ k = omega arith in let b : m % 4 ≡ 2 = omega arith in rw (ne-eqb m 0 (λ z. omega arith), a, b)
+  means (known (manifest k)) e = let a : m / 4 ≡ k = omega arith in let b : m % 4 ≡ 3 = omega arith in rw (ne-eqb m 0 (λ z. omega arith), a, b)
+  means (known (function k)) e = let a : m / 4 - 1 ≡ k = omega arith in let b : m % 4 ≡ 0 = omega arith in rw (ne-eqb m 0 (λ z. omega arith), b, a)
+
+  module _ (f : Found) (e : m ≡ found f) where
+    pub means-unknown : m ≡ 0 → f ≡ unknown
+    means-unknown q = means f e ∙ rw q
+
+    pub means-local : m % 4 ≡ 1 → f ≡ known (local (m / 4))
+    means-local q = means f e ∙ rw (ne-eqb m 0 (λ z. omega arith), q)
+
+    pub means-global : m % 4 ≡ 2 → f ≡ known (global (m / 4))
+    means-global q = means f e ∙ rw (ne-eqb m 0 (λ z. omega arith), q)
+
+    pub means-manifest : m % 4 ≡ 3 → f ≡ known (manifest (m / 4))
+    means-manifest q = means f e ∙ rw (ne-eqb m 0 (λ z. omega arith), q)
+
+    pub means-function : (m ≡ 0 → ⊥) → m % 4 ≡ 0 → f ≡ known (function (m / 4 - 1))
+    means-function n q = means f e ∙ rw (ne-eqb m 0 n, q)
 
 -- what is left to search below `at` gives the same as the whole
 pub record Left {A : Type 0} (ask : Scope → A) (s : List ℕ) (at : ℕ) (sc : Scope) : Type 0 where
@@ -168,8 +190,7 @@ module _ (text s : List ℕ) (leaf at : ℕ) where
           → t ≡ sameName text (named (x / 65536) (x % 65536)) (named place width) → t ≡ sameName text n (nameAt s leaf)
       told b {n} {t} e y fine f =
           let g : at - 2 ≡ b = omega arith in let v : x ≡ packed n = rx ∙ get-as s g ∙ y in let h : x / 65536 ≡ n .place = omega arith in
-          let l : x % 65536 ≡ n .width = omega arith in
-          cc
+          let l : x % 65536 ≡ n .width = omega arith in cc
 
       code-is : (b : ℕ) (w : Meaning) → at ≡ b + 2 → getD s (b + 1) 0 ≡ code w → z ≡ code w
       code-is b w e y = let g : at - 2 + 1 ≡ b + 1 = omega arith in r ∙ get-as s g ∙ y
@@ -211,11 +232,7 @@ pub looked-word : (text : List ℕ) (n : Name) {s : List ℕ} {top : ℕ} {sc : 
 unfolding lookup
 looked-word text n (nothing e) = tt
 looked-word text n (mark h e v z) = looked-word text n h
-looked-word text n (name {sc = sc} {n = m} {w = w} h e v p y c u) = go (sameName text m n) (looked-word text n h)
-  where
-    go : (b : Bool) → Held (lookup text sc n) → Held (cond b (known w) (lookup text sc n))
-    go true k = u
-    go false k = k
+looked-word text n (name {n = m} h e v p y c u) = either Held (sameName text m n) (λ b. u) (λ b. looked-word text n h)
 
 -- ---- the stack and the tree stay where other entries change
 
@@ -231,19 +248,21 @@ keeps-all = record { below = λ i l. refl; above = λ i l. refl; long = refl }
 pub keeps-then : {base top : ℕ} {s s₁ s₂ : List ℕ} → Keeps base top s s₁ → Keeps base top s₁ s₂ → Keeps base top s s₂
 keeps-then a b = record { below = λ i l. b .below i l ∙ a .below i l; above = λ i l. b .above i l ∙ a .above i l; long = b .long ∙ a .long }
 
+-- the name whose leaf stands there
+pub name-there : (s : List ℕ) (leaf : ℕ) {n : Name} → getD s (leaf + 1) 0 ≡ n .width → getD s (leaf + 2) 0 ≡ n .place → nameAt s leaf ≡ n
+name-there s leaf w p = rw (p, w)
+
 -- the tree's leaves are the same
 pub keeps-name : {base top leaf : ℕ} {s s′ : List ℕ} → Keeps base top s s′ → base ≤ leaf → nameAt s′ leaf ≡ nameAt s leaf
-keeps-name {leaf = leaf} {s} {s′} k l =
-    ap (λ (z : ℕ). named z (getD s′ (leaf + 1) 0)) (k .above (leaf + 2) (omega arith)) ∙ ap (λ (z : ℕ). named (getD s (leaf + 2) 0) z)
-    (k .above (leaf + 1) (omega arith))
+keeps-name {leaf = leaf} {s′ = s′} k l = name-there s′ leaf (k .above (leaf + 1) (omega arith)) (k .above (leaf + 2) (omega arith))
 
 -- what keeps a higher stack keeps a lower one
 pub keeps-lower : {base top low : ℕ} {s s′ : List ℕ} → low ≤ top → Keeps base top s s′ → Keeps base low s s′
 keeps-lower h k = record { below = λ i l. k .below i (omega arith); above = k .above; long = k .long }
 
 module _ {s s′ : List ℕ} {top first m base : ℕ} (h : Pushed s s′ top first m) (l : top + 2 ≤ base) (long : base ≤ length s) where
-  push-keeps : Keeps base top s s′
-  push-keeps = record {
+  pub pushed-keeps : Keeps base top s s′
+  pushed-keeps = record {
     below = λ i k. other i (λ e. omega arith) (λ e. omega arith);
     above = λ i k. other i (λ e. omega arith) (λ e. omega arith);
     long = ap length (h .is) ∙ simp length-set;
@@ -253,31 +272,20 @@ module _ {s s′ : List ℕ} {top first m base : ℕ} (h : Pushed s s′ top fir
       other i a b = rw (h .is, getD-set-other (set s top first) (top + 1) i m 0 b, getD-set-other s top i first 0 a)
 
   push-first : getD s′ top 0 ≡ first
-  push-first =
-      ap (λ (z : List ℕ). getD z top 0) (h .is) ∙ getD-set-other (set s top first) (top + 1) top m 0 (λ e. omega arith) ∙ getD-set-same s top first 0
-      (omega arith)
+  push-first = rw (h .is, getD-set-other (set s top first) (top + 1) top m 0 (λ e. omega arith), getD-set-same s top first 0 (omega arith))
 
   push-second : getD s′ (top + 1) 0 ≡ m
-  push-second =
-      ap (λ (z : List ℕ). getD z (top + 1) 0) (h .is) ∙ getD-set-same (set s top first) (top + 1) m 0 (omega (arith, length-set s top first))
-
-  pub pushed-keeps : Keeps base top s s′
-  pushed-keeps = push-keeps
+  push-second = rw (h .is, getD-set-same (set s top first) (top + 1) m 0 (omega (arith, length-set s top first)))
 
   pub pushed-mark : {sc : Scope} → Shows s top sc → m ≡ 0 → Shows s′ (top + 2) (opened sc)
-  pushed-mark sh e = mark (keeps-shows push-keeps (omega arith) sh) refl (omega (arith, push-keeps .long)) (push-second ∙ e)
-
-  pushed-as : {sc : Scope} (n : Name) (w : Meaning) → Shows s top sc → first ≡ packed n → FineName n → m ≡ code w → Worded w
-      → Shows s′ (top + 2) (declared sc n w)
-  pushed-as n w sh f g e u =
-      name (keeps-shows push-keeps (omega arith) sh) refl (omega (arith, push-keeps .long)) (push-first ∙ f) g (push-second ∙ e) u
+  pushed-mark sh e = mark (keeps-shows pushed-keeps (omega arith) sh) refl (omega (arith, pushed-keeps .long)) (push-second ∙ e)
 
 pub pushed-name : {s s′ : List ℕ} {top leaf m base : ℕ} → PushedName s s′ top leaf m → top + 2 ≤ base → base ≤ length s → {sc : Scope} (w : Meaning)
     → Shows s top sc → m ≡ code w → Worded w → Shows s′ (top + 2) (declared sc (nameAt s leaf) w)
-pushed-name {s} {leaf = leaf} h l long w sh e u = pushed-as (h .pushed) l long (nameAt s leaf) w sh refl (h .fine) e u
+pushed-name h l long w sh e u = let p = h .pushed in let k = pushed-keeps p l long in
+    name (keeps-shows k (omega arith) sh) refl (omega (arith, k .long)) (push-first p l long) (h .fine) (push-second p l long ∙ e) u
 
 pub pushed-leaf : {s s′ : List ℕ} {top leaf m width place : ℕ} → Pushed s s′ top (place * 65536 + width) m → width ≡ getD s (leaf + 1) 0
     → place ≡ getD s (leaf + 2) 0 → FineName (nameAt s leaf) → PushedName s s′ top leaf m
-pushed-leaf {s} {top = top} {leaf} {m} {width} {place} h ew ep f =
-    let e : place * 65536 + width ≡ packed (nameAt s leaf) = omega arith in
+pushed-leaf {s} {top = top} {leaf} {m} {width} {place} h ew ep f = let e : place * 65536 + width ≡ packed (nameAt s leaf) = omega arith in
     record { pushed = record { is = rw (h .is, e) }; fine = f }

@@ -1,10 +1,10 @@
 -- The text of the strings: a character by its escape, a string's line, the lines of one symbol, and loops over all symbols.
 use Rattle.laws.proofs.Basics.{ℕ, suc, _+_, _-_, _*_, _/_, _%_, _<_, _≤_, _≡_, refl, sym, ap, _∙_, List, [], _∷_, _++_, append-assoc, append-nil}
-use Rattle.laws.proofs.Basics.{Bool, true, false, cond, length, getD, drop, length-append, drop-drop, getD-drop, eqb, arith, eq-eqb, ne-eqb, le-leb}
-use Rattle.laws.proofs.Basics.{lt-leb}
+use Rattle.laws.proofs.Basics.{cond, length, getD, drop, length-append, drop-drop, getD-drop, eqb, arith, eq-eqb, ne-eqb, le-leb, lt-leb}
+use Rattle.laws.proofs.Cases.{by-cases, either}
 use Rattle.text.specs.Quoted.{closed, charactersOf, quoted, character, is, closing, ended, mistake}
 use Rattle.text.proofs.Bytes.{Unlike}
-use Rattle.text.proofs.Constants.{Continues, closed-next, closed-end, closed-goes-on, closed-right}
+use Rattle.text.proofs.Constants.{closed-next, closed-end, closed-goes-on, closed-right}
 use Rattle.items.specs.Item as I
 use Rattle.items.specs.Render.{plainText, characterText, charactersText, render}
 use Rattle.language.specs.Kinds.{STRING}
@@ -44,15 +44,8 @@ module _ {c at r : ℕ} {t t′ : List ℕ} where
 pub no-escape : {c : ℕ} → Unlike c (34 ∷ 42 ∷ 13 ∷ 12 ∷ 8 ∷ 9 ∷ 10 ∷ []) → Escapes c 0
 unfolding characterText
 no-escape {c} h = record {
-  plain = λ _. rw (
-    ne-eqb c 10 (h .0 .0 .0 .0 .0 .0 .1),
-    ne-eqb c 9 (h .0 .0 .0 .0 .0 .1),
-    ne-eqb c 8 (h .0 .0 .0 .0 .1),
-    ne-eqb c 12 (h .0 .0 .0 .1),
-    ne-eqb c 13 (h .0 .0 .1),
-    ne-eqb c 42 (h .0 .1),
-    ne-eqb c 34 (h .1),
-  );
+  plain = λ _. rw (ne-eqb c 10 (h .0 .0 .0 .0 .0 .0 .1), ne-eqb c 9 (h .0 .0 .0 .0 .0 .1), ne-eqb c 8 (h .0 .0 .0 .0 .1))
+      (rw (ne-eqb c 12 (h .0 .0 .0 .1), ne-eqb c 13 (h .0 .0 .1), ne-eqb c 42 (h .0 .1), ne-eqb c 34 (h .1)));
   starred = λ n. absurd (n refl);
 }
 
@@ -90,40 +83,33 @@ characters-then [] b = refl
 characters-then (c ∷ a) b = simp (characters-then a b, append-assoc)
 
 pub spelling-next : {source : List ℕ} {from i at x r c w : ℕ} {t t₁ t₂ : List ℕ} → character 34 (drop i source) ≡ is c w
-    → Puts (characterText c) x r t₁ t₂
-    → Spelling source from i at x t t₁ → Spelling source from (i + w) at r t t₂
+    → Puts (characterText c) x r t₁ t₂ → Spelling source from i at x t t₁ → Spelling source from (i + w) at r t t₂
 unfolding charactersText
-spelling-next {source} {from} {i} {at} {x} {r} {c} {w} {t} {t₁} {t₂} e p q = record { by = λ cs width z. go cs (q .by cs width z) }
-  where
-    go : (cs : List ℕ) → CharactersPart source i at x t t₁ cs → CharactersPart source (i + w) at r t t₂ cs
-    go cs k =
-        let n : Continues 34 255 source (i + w) c w (k .rest) (k .width) = closed-next 34 255 source i (k .left) e in
-        record {
-          done = k .done ++ (c ∷ []);
-          rest = n .rest;
-          width = n .width;
-          all = simp (k .all, n .are, append-assoc);
-          left = n .more;
-          puts = puts-as (puts-then (k .puts) p) (simp (characters-then (k .done) (c ∷ []), append-nil));
-        }
+spelling-next {source} {i = i} {c = c} {w} e p q = record {
+  by = λ cs width z. let k = q .by cs width z in let n = closed-next 34 255 source i (k .left) e in record {
+    done = k .done ++ (c ∷ []);
+    rest = n .rest;
+    width = n .width;
+    all = simp (k .all, n .are, append-assoc);
+    left = n .more;
+    puts = puts-as (puts-then (k .puts) p) (simp (characters-then (k .done) (c ∷ []), append-nil));
+  };
+}
 
-pub spelling-end : {source : List ℕ} {from i at x : ℕ} {t t′ : List ℕ} → character 34 (drop i source) ≡ closing
-    → Spelling source from i at x t t′ → WritesCharacters source from at x t t′
-spelling-end {source} {from} {i} {at} {x} {t} {t′} e q = record { by = λ cs width z. go cs (q .by cs width z) }
-  where
-    go : (cs : List ℕ) → CharactersPart source i at x t t′ cs → Puts (charactersText cs) at x t t′
-    go cs k =
-        let g : k .rest ≡ [] = closed-end 34 255 source i (k .left) e in
-        puts-as (k .puts) (ap charactersText (simp (k .all, g, append-nil)))
+-- at the quote; and what is closed goes on to its quote, and has no mistake before it
+module _ {source : List ℕ} {from i at x : ℕ} {t t′ : List ℕ} where
+  pub spelling-end : character 34 (drop i source) ≡ closing → Spelling source from i at x t t′ → WritesCharacters source from at x t t′
+  spelling-end e q = record {
+    by = λ cs width z. let k = q .by cs width z in let g = closed-end 34 255 source i (k .left) e in
+        puts-as (k .puts) (ap charactersText (simp (k .all, g, append-nil)));
+  }
 
--- what is closed goes on to its quote, and has no mistake before it
-pub spelling-ended : {source : List ℕ} {from i at x : ℕ} {t t′ : List ℕ} → character 34 (drop i source) ≡ ended
-    → Spelling source from i at x t t′ → WritesCharacters source from at x t t′
-spelling-ended {source} {i = i} e q = record { by = λ cs width z. absurd (closed-goes-on 34 255 source i (q .by cs width z .left) e) }
+  pub spelling-ended : character 34 (drop i source) ≡ ended → Spelling source from i at x t t′ → WritesCharacters source from at x t t′
+  spelling-ended e q = record { by = λ cs width z. absurd (closed-goes-on 34 255 source i (q .by cs width z .left) e) }
 
-pub spelling-mistake : {source : List ℕ} {from i at x number : ℕ} {t t′ : List ℕ} → character 34 (drop i source) ≡ mistake number
-    → Spelling source from i at x t t′ → WritesCharacters source from at x t t′
-spelling-mistake {source} {i = i} e q = record { by = λ cs width z. absurd (closed-right 34 255 source i (q .by cs width z .left) e) }
+  pub spelling-mistake : {number : ℕ} → character 34 (drop i source) ≡ mistake number → Spelling source from i at x t t′
+      → WritesCharacters source from at x t t′
+  spelling-mistake e q = record { by = λ cs width z. absurd (closed-right 34 255 source i (q .by cs width z .left) e) }
 
 -- ---- a string's line, and a symbol's lines
 
@@ -140,8 +126,7 @@ unfolding symbolCode lines
 symbol-none {source} {kind} n = record { by = λ e. rw (ne-eqb kind STRING n) puts-none }
 
 pub symbol-put : {source : List ℕ} {kind place l at x r : ℕ} {t t₁ t₂ : List ℕ} → kind ≡ STRING → Puts (line (I.label l)) at x t t₁
-    → WritesString source place x r t₁ t₂
-    → WritesSymbol source kind place l at r t t₂
+    → WritesString source place x r t₁ t₂ → WritesSymbol source kind place l at r t t₂
 unfolding symbolCode lines
 symbol-put {source} {kind} q p w =
     record { by = λ e. let z = e q in rw (eq-eqb kind STRING q, z .closes) (puts-as (puts-then p (w .by z)) (simp append-nil)) }
@@ -155,12 +140,10 @@ pub symbols-all : (count : ℕ) (s : List ℕ) → symbolsFrom count s 0 ≡ dec
 unfolding symbolsFrom
 symbols-all count s = let z : count - 0 ≡ count = omega arith in rw z
 
-symbols-more : (count : ℕ) (s : List ℕ) (i : ℕ) → i < count
-    → symbolsFrom count s i ≡
+symbols-more : (count : ℕ) (s : List ℕ) (i : ℕ) → i < count → symbolsFrom count s i ≡
     record { kind = getD s (i * 3) 0; value = getD s (i * 3 + 1) 0; place = getD s (i * 3 + 2) 0 } ∷ symbolsFrom count s (i + 1)
 unfolding symbolsFrom decoded
-symbols-more count s i h =
-    let z : count - i ≡ suc (count - (i + 1)) = omega arith in
+symbols-more count s i h = let z : count - i ≡ suc (count - (i + 1)) = omega arith in
     let y : i * 3 + 3 ≡ (i + 1) * 3 = omega arith in
     let y0 : i * 3 + 0 ≡ i * 3 = omega arith in
     rw (z, getD-drop (i * 3) s 0 0, y0, getD-drop (i * 3) s 1 0, getD-drop (i * 3) s 2 0, drop-drop 3 (i * 3) s, y)
@@ -179,11 +162,7 @@ oneIf-no {kind} e = rw (ne-eqb kind STRING e)
 
 pub oneIf-small : (kind : ℕ) → oneIf kind ≤ 1
 unfolding oneIf
-oneIf-small kind = go (eqb kind STRING)
-  where
-    go : (b : Bool) → cond b 1 0 ≤ 1
-    go true = omega arith
-    go false = omega arith
+oneIf-small kind = either (λ (n : ℕ). n ≤ 1) (eqb kind STRING) (λ e. omega arith) (λ e. omega arith)
 
 -- n are counted among the first i
 pub record Counted (count : ℕ) (s : List ℕ) (i n : ℕ) : Type 0 where
@@ -195,11 +174,7 @@ counted-begin {count} {s} = record { sum = rw (symbols-all count s) (omega arith
 
 count-one : (x : Symbol) (xs : List Symbol) → stringCount (x ∷ xs) ≡ oneIf (x .kind) + stringCount xs
 unfolding stringCount oneIf
-count-one x xs = go (eqb (x .kind) STRING)
-  where
-    go : (b : Bool) → cond b (suc (stringCount xs)) (stringCount xs) ≡ cond b 1 0 + stringCount xs
-    go true = omega arith
-    go false = omega arith
+count-one x xs = by-cases (eqb (x .kind) STRING) (λ e. rw e (omega arith)) (λ e. rw e (omega arith))
 
 pub counted-next : {count : ℕ} {s : List ℕ} {i n k d : ℕ} → i < count → k ≡ getD s (i * 3) 0 → d ≡ oneIf k → Counted count s i n
     → Counted count s (i + 1) (n + d)
@@ -232,8 +207,7 @@ listing-begin {source} {s} {count} = record {
 strings-then : (l : ℕ) (a b : List (List ℕ)) → stringsCode l (a ++ b) ≡ stringsCode l a ++ stringsCode (l + length a) b
 unfolding stringsCode
 strings-then l [] b = let z : l + 0 ≡ l = omega arith in rw z
-strings-then l (c ∷ a) b =
-    let z : suc l + length a ≡ l + suc (length a) = omega arith in
+strings-then l (c ∷ a) b = let z : suc l + length a ≡ l + suc (length a) = omega arith in
     ap (λ (is : List I.Item). I.label l ∷ I.string c ∷ is) (strings-then (suc l) a b ∙ rw z)
 
 -- the strings of one symbol, as many as oneIf says
@@ -242,53 +216,31 @@ ofSymbol source kind place = cond (eqb kind STRING) (charactersOf (quoted 34 255
 
 of-symbol-code : (source : List ℕ) (kind place l : ℕ) → symbolCode source kind place l ≡ stringsCode l (ofSymbol source kind place)
 unfolding symbolCode stringsCode ofSymbol
-of-symbol-code source kind place l = go (eqb kind STRING)
-  where
-    go : (b : Bool) → cond b (I.label l ∷ I.string (charactersOf (quoted 34 255 0 (drop (suc place) source))) ∷ []) []
-        ≡ stringsCode l (cond b (charactersOf (quoted 34 255 0 (drop (suc place) source)) ∷ []) [])
-    go true = refl
-    go false = refl
+of-symbol-code source kind place l = by-cases (eqb kind STRING) (λ e. rw e) (λ e. rw e)
 
 of-symbol-count : (source : List ℕ) (kind place : ℕ) → length (ofSymbol source kind place) ≡ oneIf kind
 unfolding oneIf ofSymbol
-of-symbol-count source kind place = go (eqb kind STRING)
-  where
-    go : (b : Bool) → length (cond b (charactersOf (quoted 34 255 0 (drop (suc place) source)) ∷ []) []) ≡ cond b 1 0
-    go true = refl
-    go false = refl
+of-symbol-count source kind place = by-cases (eqb kind STRING) (λ e. rw e) (λ e. rw e)
 
 of-symbol-first : (source : List ℕ) (x : Symbol) (xs : List Symbol)
     → stringsAmong source (x ∷ xs) ≡ ofSymbol source (x .kind) (x .place) ++ stringsAmong source xs
 unfolding stringsAmong ofSymbol
-of-symbol-first source x xs = go (eqb (x .kind) STRING)
-  where
-    go : (b : Bool) → cond b (charactersOf (quoted 34 255 0 (drop (suc (x .place)) source)) ∷ stringsAmong source xs) (stringsAmong source xs)
-        ≡ cond b (charactersOf (quoted 34 255 0 (drop (suc (x .place)) source)) ∷ []) [] ++ stringsAmong source xs
-    go true = refl
-    go false = refl
+of-symbol-first source x xs = by-cases (eqb (x .kind) STRING) (λ e. rw e) (λ e. rw e)
 
 pub listing-next : {source s : List ℕ} {count first i n at x r k p d : ℕ} {t t₁ t₂ : List ℕ} → i < count → k ≡ getD s (i * 3) 0
     → p ≡ getD s (i * 3 + 2) 0 → d ≡ oneIf k
     → WritesSymbol source k p n x r t₁ t₂ → Listing source s count first i n at x t t₁ → Listing source s count first (i + 1) (n + d) at r t t₂
 listing-next {source} {s} {count} {first} {i} {n} {at} {x} {r} {k} {p} h ek ep ed w q = record {
-  by = λ e.
-      let y = q .by e in
-      let m = symbols-more count s i h in
-      let a = rw m at (y .ends) in
-      let f : k ≡ STRING → Ends source p = λ z. rw ep (first-ends a (sym ek ∙ z)) in
-      let o = ofSymbol source k p in
-      let l : length (y .done ++ o) ≡ length (y .done) + length o = length-append (y .done) o in
+  by = λ e. let y = q .by e in let m = symbols-more count s i h in let a = rw m at (y .ends) in let o = ofSymbol source k p in
+      let f : k ≡ STRING → Ends source p = λ z. rw ep (first-ends a (sym ek ∙ z)) in let l = length-append (y .done) o in
+      let j = lines-then (stringsCode first (y .done)) (stringsCode (first + length (y .done)) o) in
       record {
         done = y .done ++ o;
         next = omega (arith, of-symbol-count source k p);
         ends = others-end a;
         all = y .all ∙ ap (λ (z : List (List ℕ)). y .done ++ z) (ap (stringsAmong source) m ∙ of-symbol-first source _ (symbolsFrom count s (i + 1))
             ∙ rw (ek, ep) refl) ∙ sym (append-assoc (y .done) o (stringsAmong source (symbolsFrom count s (i + 1))));
-        puts = puts-as (puts-then (y .puts) (w .by f)) (cc (
-          strings-then first (y .done) o,
-          lines-then (stringsCode first (y .done)) (stringsCode (first + length (y .done)) o),
-          of-symbol-code source k p n,
-        ));
+        puts = puts-as (puts-then (y .puts) (w .by f)) (cc (strings-then first (y .done) o, j, of-symbol-code source k p n));
       };
 }
 

@@ -1,10 +1,8 @@
 -- How many strings there are, and that every string among a source's symbols ends.
-use Rattle.laws.proofs.Basics.{ℕ, suc, _≡_, refl, ap, List, [], _∷_, Bool, true, false, cond, length, drop, eqb}
-use Rattle.laws.proofs.Cases.{contradiction}
-use Rattle.text.specs.Quoted.{charactersOf, quoted}
+use Rattle.laws.proofs.Basics.{ℕ, _≡_, refl, List, [], _∷_, length, eqb}
+use Rattle.laws.proofs.Cases.{by-cases, contradiction}
 use Rattle.language.specs.Kinds.{STRING}
-use Rattle.language.specs.Symbols.{Symbol}
-use Rattle.language.specs.Symbols.{Fault, none, fault, scan}
+use Rattle.language.specs.Symbols.{Symbol, Fault, none, fault, scan}
 use Rattle.language.specs.Brackets.{firstFault, brackets}
 use Rattle.language.specs.Source as S
 use Rattle.language.specs.Source.{symbolsOf, onFault}
@@ -17,13 +15,7 @@ use Rattle.compiler.specs.Strings.{stringCount, Ends, AllEnd, noSymbol, 
 pub string-count-is : (source : List ℕ) (ss : List Symbol) → stringCount ss ≡ length (stringsAmong source ss)
 unfolding stringCount stringsAmong
 string-count-is source [] = refl
-string-count-is source (x ∷ xs) = go (eqb (x .kind) STRING) (string-count-is source xs)
-  where
-    go : (b : Bool) → stringCount xs ≡ length (stringsAmong source xs)
-        → cond b (suc (stringCount xs)) (stringCount xs) ≡
-        length (cond b (charactersOf (quoted 34 255 0 (drop (suc (x .place)) source)) ∷ stringsAmong source xs) (stringsAmong source xs))
-    go true e = ap suc e
-    go false e = e
+string-count-is source (x ∷ xs) = by-cases (eqb (x .kind) STRING) (λ e. rw (e, string-count-is source xs)) (λ e. rw (e, string-count-is source xs))
 
 -- ---- the symbols of a text
 

@@ -4,28 +4,23 @@ use Rattle.laws.proofs.Basics.{length-append, arith, ne-eqb}
 use Rattle.items.specs.Item as I
 use Rattle.language.specs.Kinds as K
 use Rattle.language.specs.Tree as T
-use Rattle.compiler.proofs.Language.{Label, Expression, Commands, Unlabelled, depth, commandsDepth, unlabelledDepth, Scope, Fault, expression}
-use Rattle.compiler.proofs.Language.{unlabelled, labelsBefore, caseList, ofCmd, ofCases, FineUnlabelled, Leavable, doubled, inExpression}
-use Rattle.compiler.proofs.Language.{inCase, inCases, inUnlabelled, encode, encodeCommand, encodeCommands, encodeUnlabelled}
+use Rattle.compiler.proofs.Language.{Label, Commands, Unlabelled, depth, commandsDepth, unlabelledDepth, Scope, Fault, expression, unlabelled}
+use Rattle.compiler.proofs.Language.{labelsBefore, caseList, ofCmd, ofCases, FineUnlabelled, Leavable, doubled, inExpression, inCase, inCases}
+use Rattle.compiler.proofs.Language.{inUnlabelled, encode, encodeCommand, encodeCommands}
 use Rattle.language.specs.Resolved as R
 use Rattle.code.specs.Generate as G
 use Rattle.language.specs.Faults as Y
-use Rattle.compiler.proofs.Scoping.{keeps-all, keeps-then, keeps-shows}
+use Rattle.compiler.proofs.Common.{keeps-all, keeps-then, keeps-shows, did-none, did-put, did-after, did-then, did-as, did-at, did-fresh, Same}
+use Rattle.compiler.proofs.Common.{same-refl, same-eq, same-swap, same-then, same-both, code-is, keeps-lies, IsTwo, sub, with-ways, Part}
+use Rattle.compiler.proofs.Common.{begins, item, ready-one, goes-on, ended}
 use Rattle.compiler.proofs.Vocabulary.{State, Here, Ways, Node, FineE, FineCs, FinePlain, inSwitch, leavableBy, exits, NodeAt, Code, Did}
-use Rattle.compiler.proofs.Vocabulary.{Emits, Fresh, Lies, Result, ReadyE, GaveE, Counts}
-use Rattle.compiler.specs.Commands.{cmdSays, ReadyC, GaveCase, ReadyU, GaveU, casesFaults, casesSays, entriesIn, ReadyCases, GaveCases}
-use Rattle.compiler.specs.Switching.{labelFaults, ReadyLabels, JudgesLabels, tableItems, WritesTable}
-use Rattle.compiler.proofs.Done.{did-none, did-put, did-after, did-then, did-as, did-at, did-fresh, Same, same-refl, same-eq, same-swap}
-use Rattle.compiler.proofs.Done.{same-then, same-both, code-is}
-use Rattle.compiler.proofs.Trees.{first, second, keeps-lies}
-use Rattle.compiler.proofs.Parts.{sub}
-use Rattle.compiler.proofs.Anywhere.{with-ways}
-use Rattle.compiler.proofs.Guards.{closed-start, unlabelled-closed}
+use Rattle.compiler.proofs.Vocabulary.{Emits, Fresh, Lies, ReadyE, GaveE, Counts, cmdSays, ReadyC, GaveCase, ReadyU, GaveU, casesFaults}
+use Rattle.compiler.proofs.Vocabulary.{casesSays, entriesIn, ReadyCases, GaveCases, labelFaults, ReadyLabels, JudgesLabels, tableItems}
+use Rattle.compiler.proofs.Vocabulary.{WritesTable}
 use Rattle.compiler.proofs.Blocks.{commandList}
-use Rattle.compiler.proofs.Lists.{Part, begins, item, ready-one, goes-on, ended}
 use Rattle.compiler.proofs.Counting.{command-items}
 use Rattle.compiler.proofs.Forms as F
-use Rattle.compiler.proofs.Forms.{Form, form-at}
+use Rattle.compiler.proofs.Forms.{Form, form-at, same-long}
 
 -- ---- the loop
 
@@ -82,25 +77,8 @@ cases-same text sc l h before (T.andCommand c cs) =
 
 -- ---- the whole
 
-pub record IsSwitch (s : List ℕ) (lo end : ℕ) (u : Unlabelled) : Type 0 where
-  pub value : Expression
-  pub list : Commands
-  pub same : u ≡ T.switchon value list
-  pub lies : Lies s lo (encode value)
-  pub lies-list : Lies s (lo + length (encode value)) (encodeCommands list)
-  pub value-of : getD s (end - 3) 0 ≡ length (encode value)
-  pub ends : end ≡ lo + length (encode value) + length (encodeCommands list) + 4
-
-is-switch : {s : List ℕ} {lo end : ℕ} {u : Unlabelled} → Form s lo end K.SWITCHON u → IsSwitch s lo end u
-is-switch {lo = lo} (F.aSwitch {e} {cs} h v q) = record {
-  value = e;
-  list = cs;
-  same = refl;
-  lies = first (encode e) (encodeCommands cs) h;
-  lies-list = second (encode e) (encodeCommands cs) (lo + length (encode e)) h refl;
-  value-of = v;
-  ends = omega (arith, length-append (encode e) (encodeCommands cs));
-}
+is-switch : {s : List ℕ} {lo end : ℕ} {u : Unlabelled} → Form s lo end K.SWITCHON u → IsTwo encode encodeCommands T.switchon s lo end u
+is-switch (F.aSwitch h) = h
 
 -- two entries stand in front of each command
 pub list-entries : (text : List ℕ) (sc : Scope) (h : ℕ) (cs : Commands)
@@ -135,24 +113,20 @@ switchSays x w cs n = record {
 
 module _ {s : List ℕ} {end : ℕ} {here : Here} {st : State} (n : Node) (nd : NodeAt s end n) (q : getD s (end - 1) 0 ≡ K.SWITCHON) {middle : ℕ}
     (m : middle ≡ n .start + n .value) where
-  pub switch-is : (y : ReadyU s end here st) → IsSwitch s (y .lo) end (y .tree)
+  pub switch-is : (y : ReadyU s end here st) → IsTwo encode encodeCommands T.switchon s (y .lo) end (y .tree)
   switch-is y = is-switch (form-at n nd (nd .kind ∙ q) y)
 
-  pub switch-fine : (y : ReadyU s end here st) → FineE (switch-is y .value) × FineCs (switch-is y .list)
-  unfolding FineUnlabelled
-  switch-fine y = let f = subst FinePlain (switch-is y .same) (y .fine) in (f .0 .0, f .0 .1)
+  pub switch-parts : (y : ReadyU s end here st) → let u = switch-is y in
+      (FineE (u .left) × FineCs (u .list)) × (depth (u .left) ≤ here .left) × (commandsDepth (u .list) ≤ here .left)
+  unfolding FineUnlabelled unlabelledDepth
+  switch-parts y = let u = switch-is y in let e = ap unlabelledDepth (u .same) in let f = subst FinePlain (u .same) (y .fine) .0 in
+      ((f .0, f .1), omega arith, omega arith)
 
-  pub switch-deep : (y : ReadyU s end here st) → (depth (switch-is y .value) ≤ here .left) × (commandsDepth (switch-is y .list) ≤ here .left)
-  unfolding unlabelledDepth
-  switch-deep y = let e = ap unlabelledDepth (switch-is y .same) in (omega arith, omega arith)
-
-  pub switch-middle : (y : ReadyU s end here st) → middle ≡ y .lo + length (encode (switch-is y .value))
-  switch-middle y = let u = switch-is y in let k = nd .start ∙ sym (closed-start {end = end} (unlabelled-closed (y .tree) (y .fine)) (y .lies)
-      (y .ends) .0) in
-      omega arith
+  pub switch-middle : (y : ReadyU s end here st) → middle ≡ y .lo + length (encode (switch-is y .left))
+  switch-middle y = let u = switch-is y in omega arith
 
   abbrev pub switch-value : ReadyU s end here st → ReadyE s middle here st
-  switch-value y = let u = switch-is y in sub y keeps-all (u .lies) refl (omega (arith, switch-middle y, switch-deep y .0)) (switch-fine y .0)
+  switch-value y = let u = switch-is y in sub y keeps-all (u .lies) refl (omega (arith, switch-middle y, switch-parts y .1)) (switch-parts y .0 .0)
 
   module _ (text : List ℕ) {s₁ t t₁ : List ℕ} {a : State} (g : GaveE text s s₁ middle here t t₁ st a) {k : ℕ}
       (c : Counts s₁ middle (n .inner) k) where
@@ -179,7 +153,7 @@ module _ {s : List ℕ} {end : ℕ} {here : Here} {st : State} (n : Node) (nd : 
       above = omega (arith, switch-middle y);
       small = omega arith;
       shows = keeps-shows (g .by (switch-value y) .keeps) (omega arith) (y .shows);
-      fine = switch-fine y .1;
+      fine = switch-parts y .0 .1;
     }
 
     module _ {b i d : State} {t₂ : List ℕ} (e : Fresh (k + 1) a b) (j : JudgesLabels text s₁ middle (n .inner) (here .top) b i) {first : ℕ}
@@ -191,7 +165,7 @@ module _ {s : List ℕ} {end : ℕ} {here : Here} {st : State} (n : Node) (nd : 
       switch-cases y =
           let u = switch-is y in let x = g .by (switch-value y) in let v = list-entries text (y .scope) (here .height) (u .list) in record {
             before = st;
-            ready = sub y (x .keeps) (u .lies-list) refl (omega (arith, switch-deep y .1)) (switch-fine y .1);
+            ready = sub y (x .keeps) (u .lies-list) refl (omega (arith, switch-parts y .2)) (switch-parts y .0 .1);
             starts = sym (switch-middle y);
             label = omega (arith, switch-state y, switch-count y);
             some = omega (arith, switch-state y);
@@ -203,21 +177,19 @@ module _ {s : List ℕ} {end : ℕ} {here : Here} {st : State} (n : Node) (nd : 
       unfolding inUnlabelled unlabelled G.cmdCode ofCmd G.cmdLabels
       switch-gave ways {s₂} {t₃} {t₄} {o} {r} g₂ f = record {
         by = λ y. let u = switch-is y in let x = g .by (switch-value y) in let z = g₂ .by (switch-cases y) in let sc = y .scope in
-            let h = here .height in let S = here .strings in let lv = leavableBy ways here in let A = a .label in let E = expression text sc h
-            (u .value) in let CS = caseList text sc h (u .list) in let v = list-entries text sc h (u .list) in let ek = switch-count y in
+            let h = here .height in let lv = leavableBy ways here in let A = a .label in let E = expression text sc h
+            (u .left) in let CS = caseList text sc h (u .list) in let v = list-entries text sc h (u .list) in let ek = switch-count y in
             let ls : leavableBy (inSwitch A ways) here ≡ Y.inSwitch lv = leaves-switch here ways A (omega arith) in let en : A + (k + 1) + 0 ≡ A + 1
             + G.commandsIn CS = omega arith in let F = labelFaults text sc [] (u .list) in
             let rest : Did (F ++ casesFaults text sc (leavableBy (inSwitch A ways) here) h (u .list)) (switchSays here ways CS)
             (k + 1 + (0 + 2 * entriesIn (u .list))) t₁ t₄ a r =
             did-at (switchSays here ways CS) _ (did-fresh e (did-put (did-then (table-did h j w (switch-labels y)) (z .did)) f)) same-refl
             (λ p. code-is (rw (append-assoc, ef, en)) refl (omega arith)) (omega arith) in
-            subst (λ (p : Unlabelled). Result (inUnlabelled text sc lv h p) (cmdSays here ways (unlabelled text sc h p))
-            (length (encodeUnlabelled (y .tree))) (y .base) here s s₂ t t₄ st r) (sym (u .same))
-            (record {
+            rw (u .same) (record {
               keeps = keeps-then (x .keeps) (z .keeps);
-              did = did-as (cmdSays here ways (R.switch E CS)) _ (did-then (with-ways text sc here ways h (u .value) (x .did)) rest)
-                  (same-both (same-refl {a = inExpression text sc lv h (u .value)}) (same-then (same-eq (rw ls)) (cases-same text sc (Y.inSwitch lv) h
-                  [] (u .list)))) (λ p c. code-is refl refl (omega arith)) (omega arith);
+              did = did-as (cmdSays here ways (R.switch E CS)) _ (did-then (with-ways text sc here ways h (u .left) (x .did)) rest)
+                  (same-both (same-refl {a = inExpression text sc lv h (u .left)}) (same-then (same-eq (rw ls)) (cases-same text sc (Y.inSwitch lv) h
+                  [] (u .list)))) (λ p c. code-is refl refl (omega arith)) (omega (arith, same-long (u .same)));
             });
       }
 

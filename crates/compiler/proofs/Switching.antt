@@ -1,33 +1,24 @@
 -- The labels of a list after INTO: where they stand, which there are, and the words after X23.
-use Rattle.laws.proofs.Basics.{ℕ, suc, _+_, _-_, _^_, _<_, _≤_, _≡_, refl, sym, ap, _∙_, List, [], _∷_, _++_, Bool, true, false, cond, length, getD}
-use Rattle.laws.proofs.Basics.{length-append, arith}
+use Rattle.laws.proofs.Basics.{ℕ, suc, _+_, _-_, _^_, _<_, _≤_, _≡_, refl, sym, ap, subst, _∙_, List, [], _∷_, _++_, Bool, true, false, cond, length}
+use Rattle.laws.proofs.Basics.{getD, arith, eqb, eq-eqb, ne-eqb}
 use Rattle.laws.proofs.Cases.{contradiction}
 use Rattle.items.specs.Item as I
-use Rattle.language.specs.Kinds.{member}
-use Rattle.language.specs.Binding.{isGuard, isLeave}
 use Rattle.language.specs.Tree as T
-use Rattle.compiler.proofs.Language.{Name, Simple, Constant, Label, Expression, Command, Commands, Unlabelled, endsInCall, Scope, lookup}
-use Rattle.compiler.proofs.Language.{fault, Judged, good, refused, judge, signed, ofFound, ofSimple, faultsOf, CaseLabel, hasDefault, casesOf}
-use Rattle.compiler.proofs.Language.{caseCount, labelsBefore, labelsOf, goodCase, caseList, greatest, doubledCase, doubledLabel, doubled}
-use Rattle.compiler.proofs.Language.{FineLabels, FineCommand, FineCommands, FineUnlabelled, closed, encode, encodeLabels, encodeCommand}
-use Rattle.compiler.proofs.Language.{encodeCommands, encodeUnlabelled, encodeRepeats, labelled}
+use Rattle.compiler.proofs.Language.{Name, Constant, Label, Command, Commands, Scope, lookup, fault, Judged, good, refused, judge, signed}
+use Rattle.compiler.proofs.Language.{ofFound, ofSimple, faultsOf, hasDefault, casesOf, caseCount, labelsBefore, labelsOf, goodCase, caseList}
+use Rattle.compiler.proofs.Language.{doubledCase, doubledLabel, doubled, FineCommand, FineCommands, encodeCommand, encodeCommands}
 use Rattle.language.specs.Names as N
 use Rattle.code.specs.Generate as G
-use Rattle.writing.specs.Text.{lines}
-use Rattle.writing.proofs.Laws.{puts-none}
-use Rattle.tree.specs.Encoding as O
-use Rattle.compiler.proofs.Vocabulary.{Shows, State, Node, FineC, FineCs, FinePlain, NodeAt, Emits, Lies}
-use Rattle.compiler.specs.declared.steps.Verdict.{Verdict}
+use Rattle.compiler.proofs.Vocabulary.{State, Node, FineC, FineCs, NodeAt, Emits, Lies, Verdict, labelFaults, ReadyLabels, WritesTable}
 use Rattle.compiler.specs.declared.labels.Span.{Span}
 use Rattle.compiler.specs.Locals.{Says, fit, unfit, Judges}
-use Rattle.compiler.specs.Switching.{labelFaults, ReadyLabels, WritesTable}
 use Rattle.compiler.specs.Labels as L
-use Rattle.compiler.specs.Labels.{Row, noMore, andMore, NextItem, LabelAt, aCase, aDefault, CommandAt, Spans, Listed, marks, flat, caseItems}
+use Rattle.compiler.specs.Labels.{aCase, aDefault, Row, noMore, andMore, NextItem, LabelAt, CommandAt, Spans, Listed, marks, flat, caseItems}
 use Rattle.compiler.specs.Labels.{CountsLabel, CountsAll, HasDefault, defaultAmong, FindsDefault, Sound, noLabel, anyDefault, tableAmong, Still}
 use Rattle.compiler.specs.Labels.{WritesPair, WritesPairs, WritesAll}
-use Rattle.compiler.proofs.Done.{emits-then, nil-left, nil-right}
-use Rattle.compiler.proofs.Trees.{first, kid, ends, value-is, size-is, kind-is}
-use Rattle.compiler.proofs.Guards.{expression-closed, kind-of, shut}
+use Rattle.compiler.proofs.Common.{emits-none, emits-then, nil-left, nil-right}
+use Rattle.compiler.proofs.Labelled.{is-labelled, is-bare}
+use Rattle.compiler.proofs.Judging.{of-found}
 use Rattle.compiler.proofs.Rows.{Left, left-all, left-next, left-end, an-item, labels-row}
 
 -- ---- the labels of a command
@@ -47,75 +38,16 @@ module _ {s : List ℕ} {end : ℕ} (n : Node) (nd : NodeAt s end n) where
         rw (nd .start) (rw b at (c .row (sym (nd .kind) ∙ q)));
   }
 
-labelled-at : {s : List ℕ} {lo end : ℕ} (ls : List Label) (w : List ℕ) → FineLabels ls
-    → Lies s lo (closed (encodeLabels ls ++ w) (length (encodeLabels ls)) 0 132)
-    → end ≡ lo + length (closed (encodeLabels ls ++ w) (length (encodeLabels ls)) 0 132) → CommandAt s end ls
-labelled-at {s} {lo} {end} ls w f h e =
-    let x = encodeLabels ls in let v = length x in
-    let z : getD s (end - 4) 0 ≡ length x + length w = size-is (x ++ w) v 0 132 h e ∙ length-append x w in
-    let en : end ≡ lo + (length x + length w) + 4 = omega (arith, ends (x ++ w) v 0 132 h e, length-append x w) in
-    let a : lo ≡ end - 4 - getD s (end - 4) 0 = omega arith in
-    let b : end - 4 - getD s (end - 4) 0 + getD s (end - 3) 0 ≡ lo + length x = omega (arith, value-is (x ++ w) v 0 132 h e) in
-    record {
-      bare = λ q. absurd (q (kind-is (x ++ w) v 0 132 h e));
-      inside = λ q. omega arith;
-      row = λ q. rw a at (labels-row ls f (first x w (kid (x ++ w) v 0 132 h e)) b);
-    }
-
-guard-not : {w : ℕ} → isGuard w ≡ true → w ≡ 132 → ⊥
-unfolding isGuard member
-guard-not f e = let z : isGuard 132 ≡ true = rw e at f in contradiction cc
-
-leave-not : {w : ℕ} → isLeave w ≡ true → w ≡ 132 → ⊥
-unfolding isLeave member
-leave-not f e = let z : isLeave 132 ≡ true = rw e at f in contradiction cc
-
-suffixed-low : (b : Bool) → O.suffixedKind b ≤ 131
-unfolding O.suffixedKind
-suffixed-low true = omega arith
-suffixed-low false = omega arith
-
--- no expression has labels before it
-expression-low : (e : Expression) → expression-closed e .kind ≤ 131
-unfolding expression-closed shut
-expression-low (T.number p v) = omega arith
-expression-low (T.string p v) = omega arith
-expression-low (T.name n) = omega arith
-expression-low (T.bracketed p d) = omega arith
-expression-low (T.valof p c) = omega arith
-expression-low (T.monadic p o d) = omega arith
-expression-low (T.suffixed d ss) = suffixed-low (endsInCall false ss)
-expression-low (T.dyadic d os) = omega arith
-
-plain-not : {s : List ℕ} {lo end : ℕ} (u : Unlabelled) → FinePlain u → Lies s lo (encodeUnlabelled u) → end ≡ lo + length (encodeUnlabelled u)
-    → getD s (end - 1) 0 ≡ 132 → ⊥
-unfolding FineUnlabelled encodeUnlabelled
-plain-not T.empty f h e q = f .1 refl
-plain-not (T.assignment ls rs) f h e q =
-    omega (arith, kind-is (O.encodeSides ls ++ O.encodeExpressions rs) (length (O.encodeFirst ls)) (length (O.encodeSides ls)) 56 h e)
-plain-not (T.callCommand d) f h e q = omega (arith, expression-low d, kind-of (expression-closed d) h e)
-plain-not (T.test d c c′) f h e q = omega (arith, kind-is (encode d ++ (encodeCommand c ++ encodeCommand c′)) 0 0 13 h e)
-plain-not (T.guarded w d c) f h e q = guard-not (f .0 .2) (sym (kind-is (encode d ++ encodeCommand c) 0 0 w h e) ∙ q)
-plain-not (T.for x d d′ k c) f h e q =
-    omega (arith, kind-is (O.encodeName x ++ (encode d ++ (encode d′ ++ (O.encodeBy k ++ encodeCommand c)))) (length (O.encodeBy k)) 0 23 h e)
-plain-not (T.switchon d cs) f h e q = omega (arith, kind-is (encode d ++ O.encodeCommands cs) (length (encode d)) 0 26 h e)
-plain-not (T.resultis p d) f h e q = omega (arith, kind-is (encode d) 0 p 8 h e)
-plain-not (T.leave w p) f h e q = leave-not (f .0) (sym (kind-is [] 0 p w h e) ∙ q)
-plain-not (T.block ls cs) f h e q = omega (arith, kind-is (O.encodeLocals ls ++ O.encodeCommands cs) (length (O.encodeLocals ls)) 0 57 h e)
-
-no-labels : {s : List ℕ} {end : ℕ} → (getD s (end - 1) 0 ≡ 132 → ⊥) → CommandAt s end []
-no-labels n = record { bare = λ q. refl; inside = λ q. absurd (n q); row = λ q. absurd (n q) }
-
 command-at : {s : List ℕ} {lo end : ℕ} (c : Command) → FineC c → Lies s lo (encodeCommand c) → end ≡ lo + length (encodeCommand c)
     → CommandAt s end (labelsBefore c)
-unfolding FineCommand encodeCommand labelled O.repeated encodeLabels encodeRepeats
-command-at (T.command [] u T.noRepeats) f h e = no-labels (plain-not u (f .1, λ z. omega (arith, f .3 .labels z)) h e)
-command-at (T.command [] u (T.repeat rs)) f h e =
-    no-labels (λ q. omega (arith, kind-is (encodeUnlabelled u ++ encodeRepeats (T.repeat rs)) (length (encodeUnlabelled u)) 0 133 h e))
-command-at (T.command [] u (T.repeatOn w d rs)) f h e =
-    no-labels (λ q. omega (arith, kind-is (encodeUnlabelled u ++ encodeRepeats (T.repeatOn w d rs)) (length (encodeUnlabelled u)) 0 133 h e))
-command-at (T.command (T.case p c ∷ ls) u rs) f h e = labelled-at (T.case p c ∷ ls) (O.repeated (encodeUnlabelled u) (encodeRepeats rs)) (f .0) h e
-command-at (T.command (T.default p ∷ ls) u rs) f h e = labelled-at (T.default p ∷ ls) (O.repeated (encodeUnlabelled u) (encodeRepeats rs)) (f .0) h e
+unfolding FineCommand
+command-at {s} {lo} {end} c f h e = record {
+  bare = λ q. ap labelsBefore (is-bare c h e q .same);
+  inside = λ q. let u = is-labelled c f h e q in omega arith;
+  row = λ q. let u = is-labelled c f h e q in let a : lo ≡ end - 4 - getD s (end - 4) 0 = omega arith in
+      rw (u .same) (subst (λ (k : ℕ). Row (LabelAt s) s (k + getD s (end - 3) 0) k (u .left)) a
+      (labels-row (u .left) (subst FineC (u .same) f .0) (u .lies) (omega arith)));
+}
 
 pub commands-row : {s : List ℕ} {at end : ℕ} (cs : Commands) → FineCs cs → Lies s at (encodeCommands cs) → end ≡ at + length (encodeCommands cs)
     → Row (CommandAt s) s end at (marks cs)
@@ -150,19 +82,15 @@ pub record Holding (A : Type 0) : Type 1 where
   pub none : every [] ≡ []
   pub more : (x : A) (xs : List A) → every (x ∷ xs) ≡ one x ++ every xs
 
-pub flat-none : flat [] ≡ []
+pub flat-laws : (flat [] ≡ []) × ((ls : List Label) (lss : List (List Label)) → flat (ls ∷ lss) ≡ ls ++ flat lss)
 unfolding flat
-flat-none = refl
-
-pub flat-more : (ls : List Label) (lss : List (List Label)) → flat (ls ∷ lss) ≡ ls ++ flat lss
-unfolding flat
-flat-more ls lss = refl
+flat-laws = (refl, λ ls lss. refl)
 
 abbrev pub labels : List ℕ → Holding Label
 labels s = record { At = LabelAt s; one = λ l. l ∷ []; every = λ ls. ls; none = refl; more = λ l ls. refl }
 
 abbrev pub commands : List ℕ → Holding (List Label)
-commands s = record { At = CommandAt s; one = λ ls. ls; every = flat; none = flat-none; more = flat-more }
+commands s = record { At = CommandAt s; one = λ ls. ls; every = flat; none = flat-laws .0; more = flat-laws .1 }
 
 -- the loop over them
 module _ {A : Type 0} (K : Holding A) where
@@ -175,13 +103,8 @@ module _ {A : Type 0} (K : Holding A) where
 
     pub count-next : {at next k : ℕ} (n : ℕ) → at < end → NextItem s at end next → ((x : A) → K .At next x → k ≡ caseItems (K .one x)) → (xs : List A)
         → CountPart at n xs → CountPart next (n + k) xs
-    count-next {at} {next} {k} n l m f xs p = left-next l m p (λ x ys e q h. omega (
-      arith,
-      f x q,
-      ap caseItems (K .more x ys),
-      cases-then (K .one x)
-          (K .every ys),
-    ))
+    count-next {at} {next} {k} n l m f xs p = left-next l m p (λ x ys e q h. let a = ap caseItems (K .more x ys) in
+        omega (arith, f x q, a, cases-then (K .one x) (K .every ys)))
 
     pub count-end : {at n : ℕ} → end ≤ at → (xs : List A) → CountPart at n xs → n ≡ caseItems (K .every xs)
     unfolding caseItems
@@ -191,39 +114,21 @@ module _ {A : Type 0} (K : Holding A) where
 
 pub one-case-is : {s : List ℕ} {end i k : ℕ} → i ≡ end - 1 → k ≡ getD s i 0 → k ≡ 28 → CountsLabel s end 1
 unfolding caseItems
-one-case-is {s} {end} ei ek q = record { few = omega arith; by = go }
-  where
-    z : getD s (end - 1) 0 ≡ 28
-    z = cc
-
-    go : (l : Label) → LabelAt s end l → 1 ≡ caseItems (l ∷ [])
-    go (T.case p c) (aCase a e h en f) = refl
-    go (T.default p) (aDefault a e) = absurd (omega (arith, z, a))
+one-case-is {s} {end} ei ek q = let z : getD s (end - 1) 0 ≡ 28 = cc in
+    record { few = omega arith; by = λ l. elim [ aCase a e h en f ↦ refl | aDefault a e ↦ absurd (omega arith) ] }
 
 pub one-case-not : {s : List ℕ} {end i k : ℕ} → i ≡ end - 1 → k ≡ getD s i 0 → (k ≡ 28 → ⊥) → CountsLabel s end 0
 unfolding caseItems
-one-case-not {s} {end} ei ek q = record { few = omega arith; by = go }
-  where
-    go : (l : Label) → LabelAt s end l → 0 ≡ caseItems (l ∷ [])
-    go (T.case p c) (aCase a e h en f) = absurd (q (rw (ek, ei, a)))
-    go (T.default p) (aDefault a e) = refl
+one-case-not ei ek q = record { few = omega arith; by = λ l. elim [ aCase a e h en f ↦ absurd (q (rw (ek, ei, a))) | aDefault a e ↦ refl ] }
 
 -- ---- DEFAULT among labels, and its command
 
-default-there : (text : List ℕ) (sc : Scope) (l : Label) (ls : List Label) → caseItems (l ∷ []) ≡ 0 → hasDefault (labelsOf text sc (l ∷ ls)) ≡ true
+default-first : (text : List ℕ) (sc : Scope) (l : Label) (ls : List Label)
+    → hasDefault (labelsOf text sc (l ∷ ls)) ≡ cond (eqb (caseItems (l ∷ [])) 0) true (hasDefault (labelsOf text sc ls))
 unfolding caseItems labelsOf hasDefault
-default-there text sc (T.case p c) ls e = absurd (omega arith)
-default-there text sc (T.default p) ls e = refl
-
-default-not : (text : List ℕ) (sc : Scope) (l : Label) (ls : List Label) → (caseItems (l ∷ []) ≡ 0 → ⊥)
-    → hasDefault (labelsOf text sc (l ∷ ls)) ≡ hasDefault (labelsOf text sc ls)
-unfolding caseItems labelsOf hasDefault
-default-not text sc (T.case p c) ls n = go (judge text sc c)
-  where
-    go : (j : Judged) → hasDefault (goodCase j (labelsOf text sc ls)) ≡ hasDefault (labelsOf text sc ls)
-    go (good v) = refl
-    go (refused fs) = refl
-default-not text sc (T.default p) ls n = absurd (n refl)
+default-first text sc (T.case p c) ls = elim (judge text sc c) as (λ j. hasDefault (goodCase j (labelsOf text sc ls)) ≡ hasDefault
+    (labelsOf text sc ls)) [ good v ↦ refl | refused fs ↦ refl ]
+default-first text sc (T.default p) ls = refl
 
 module _ (s : List ℕ) (end : ℕ) where
   abbrev pub AmongPart : (at : ℕ) → List Label → Type 0
@@ -235,11 +140,12 @@ module _ (s : List ℕ) (end : ℕ) where
 
   module _ {at next k : ℕ} (l : at < end) (n : NextItem s at end next) (f : CountsLabel s next k) where
     pub among-next : (k ≡ 0 → ⊥) → (ls : List Label) → AmongPart at ls → AmongPart next ls
-    among-next z ls p = left-next l n p (λ x xs e q h text sc. h text sc ∙ default-not text sc x xs (λ w. z (f .by x q ∙ w)))
+    among-next z ls p = left-next l n p (λ x xs e q h text sc. let c = ne-eqb (caseItems (x ∷ [])) 0 (λ w. z (f .by x q ∙ w)) in
+        h text sc ∙ default-first text sc x xs ∙ rw c)
 
     pub among-found : k ≡ 0 → (ls : List Label) → AmongPart at ls → (text : List ℕ) (sc : Scope) → true ≡ hasDefault (labelsOf text sc ls)
     among-found z ls p text sc = left-next {Q′ = λ rest. true ≡ hasDefault (labelsOf text sc ls)} l n p
-        (λ x xs e q h. sym (h text sc ∙ default-there text sc x xs (sym (f .by x q) ∙ z))) .holds
+        (λ x xs e q h. sym (h text sc ∙ default-first text sc x xs ∙ rw (eq-eqb (caseItems (x ∷ [])) 0 (sym (f .by x q) ∙ z)))) .holds
 
   pub among-end : {at : ℕ} → end ≤ at → (ls : List Label) → AmongPart at ls → (text : List ℕ) (sc : Scope) → false ≡ hasDefault (labelsOf text sc ls)
   unfolding labelsOf hasDefault
@@ -283,33 +189,27 @@ still-then x y = record { worst = y .worst ∙ x .worst; label = y .label ∙ x 
 pub emits-still : {xs : List I.Item} {hs t t′ : List ℕ} {st r : State} → Emits xs hs t t′ st r → Still st r
 emits-still e = record { worst = e .worst; label = e .label }
 
-emits-none : {t : List ℕ} {st : State} → Emits [] [] t t st st
-unfolding lines greatest
-emits-none = record { text = puts-none; high = refl; worst = refl; label = refl }
-
 emits-as : {xs ys : List I.Item} {t t′ : List ℕ} {st r : State} → Emits xs [] t t′ st r → xs ≡ ys → Emits ys [] t t′ st r
 emits-as e q = rw q at e
-
-pairs-good : (k : ℕ) (j : Judged) (ls : List CaseLabel) → G.pairsOf k (goodCase j []) ++ G.pairsOf k ls ≡ G.pairsOf k (goodCase j ls)
-unfolding G.pairsOf
-pairs-good k (good v) ls = refl
-pairs-good k (refused fs) ls = refl
 
 pairs-then : (text : List ℕ) (sc : Scope) (k : ℕ) (l : Label) (ls : List Label)
     → G.pairsOf k (labelsOf text sc (l ∷ [])) ++ G.pairsOf k (labelsOf text sc ls) ≡ G.pairsOf k (labelsOf text sc (l ∷ ls))
 unfolding labelsOf G.pairsOf
-pairs-then text sc k (T.case p c) ls = pairs-good k (judge text sc c) (labelsOf text sc ls)
+pairs-then text sc k (T.case p c) ls = let xs = labelsOf text sc ls in
+    elim (judge text sc c) as (λ j. G.pairsOf k (goodCase j []) ++ G.pairsOf k xs ≡ G.pairsOf k (goodCase j xs)) [ good v ↦ refl | refused fs ↦ refl ]
 pairs-then text sc k (T.default p) ls = refl
 
-sound-left : {text : List ℕ} {sc : Scope} (ls ms : List Label) → Sound text sc (ls ++ ms) → Sound text sc ls
-sound-left [] ms s = noLabel
-sound-left (T.case p c ∷ ls) ms (L.goodCase v e s) = L.goodCase v e (sound-left ls ms s)
-sound-left (T.default p ∷ ls) ms (anyDefault s) = anyDefault (sound-left ls ms s)
+sound-parts : {text : List ℕ} {sc : Scope} (ls ms : List Label) → Sound text sc (ls ++ ms) → Sound text sc ls × Sound text sc ms
+sound-parts [] ms s = (noLabel, s)
+sound-parts (T.case p c ∷ ls) ms (L.goodCase v e s) = let u = sound-parts ls ms s in (L.goodCase v e (u .0), u .1)
+sound-parts (T.default p ∷ ls) ms (anyDefault s) = let u = sound-parts ls ms s in (anyDefault (u .0), u .1)
 
-sound-right : {text : List ℕ} {sc : Scope} (ls ms : List Label) → Sound text sc (ls ++ ms) → Sound text sc ms
-sound-right [] ms s = s
-sound-right (T.case p c ∷ ls) ms (L.goodCase v e s) = sound-right ls ms s
-sound-right (T.default p ∷ ls) ms (anyDefault s) = sound-right ls ms s
+pub record IsGood (j : Judged) : Type 0 where
+  pub value : ℕ
+  pub is : j ≡ good value
+
+first-good : {text : List ℕ} {sc : Scope} {p : ℕ} {c : Constant} {ls : List Label} → Sound text sc (T.case p c ∷ ls) → IsGood (judge text sc c)
+first-good (L.goodCase v w so) = record { value = v; is = w }
 
 says-is : {j : Verdict} {x : Judged} {v : ℕ} → Says j x → x ≡ good v → x ≡ good (j .word)
 says-is (fit q) e = refl
@@ -318,28 +218,26 @@ says-is (unfit a b w) e = contradiction cc
 module _ (text : List ℕ) {s : List ℕ} {end top : ℕ} (n : Node) (nd : NodeAt s end n) where
   pub pair-not : {k : ℕ} {t : List ℕ} {st : State} → (n .kind ≡ 28 → ⊥) → WritesPair text s end top k t t st st
   unfolding labelsOf G.pairsOf
-  pair-not {k} {t} {st} q = record { still = still-here; by = go }
-    where
-      go : (sc : Scope) (x : Label) → Shows s top sc → LabelAt s end x → Sound text sc (x ∷ [])
-          → Emits (G.pairsOf k (labelsOf text sc (x ∷ []))) [] t t st st
-      go sc (T.case p c) sh (aCase a e h en f) so = absurd (q (nd .kind ∙ a))
-      go sc (T.default p) sh (aDefault a e) so = emits-none
+  pair-not q = record {
+    still = still-here;
+    by = λ sc l sh. elim [ aCase a e h en f ↦ λ so. absurd (q (nd .kind ∙ a)) | aDefault a e ↦ λ so. emits-none ];
+  }
 
   pub pair-is : {k : ℕ} {t t₁ t₂ : List ℕ} {st a r : State} {j : Verdict} → n .kind ≡ 28 → Judges text s (n .inner) top j
       → Emits (G.D (j .word) ∷ []) [] t t₁ st a → Emits (G.DL k ∷ []) [] t₁ t₂ a r → WritesPair text s end top k t t₂ st r
   unfolding labelsOf G.pairsOf
-  pair-is {k} {t} {t₁} {t₂} {st} {a} {r} q g d e = record { still = still-then (emits-still d) (emits-still e); by = go }
-    where
-      go : (sc : Scope) (x : Label) → Shows s top sc → LabelAt s end x → Sound text sc (x ∷ [])
-          → Emits (G.pairsOf k (labelsOf text sc (x ∷ []))) [] t t₂ st r
-      go sc (T.case p c) sh (aCase {lo = lo} a en h z f) (L.goodCase v w so) =
-          emits-as (emits-then d e) (sym (rw (says-is (g .by sc lo c sh f h (nd .inner ∙ z)) w)))
-      go sc (T.default p) sh (aDefault a en) so = absurd (omega arith)
+  pair-is q g d e = record {
+    still = still-then (emits-still d) (emits-still e);
+    by = λ sc l sh. elim [
+      | aCase {lo = lo} {c = c} a z h en f ↦ λ so. let w = first-good so in
+          emits-as (emits-then d e) (sym (rw (says-is (g .by sc lo c sh f h (nd .inner ∙ en)) (w .is))))
+      | aDefault a z ↦ λ so. absurd (omega arith)
+    ];
+  }
 
 module _ (text : List ℕ) {s : List ℕ} {from end top : ℕ} (k : ℕ) (t₀ : List ℕ) (st₀ : State) where
   abbrev pub PairsPart : (y : Listed (LabelAt s) s from end top) (t : List ℕ) (at : ℕ) (st : State) → Type 0
-  PairsPart y t at st =
-      Left (LabelAt s) s end at (λ rest. Sound text (y .scope) rest
+  PairsPart y t at st = Left (LabelAt s) s end at (λ rest. Sound text (y .scope) rest
       × ((t′ : List ℕ) (st′ : State) → Emits (G.pairsOf k (labelsOf text (y .scope) rest)) [] t t′ st st′ → Emits
       (G.pairsOf k (labelsOf text (y .scope) (y .all))) [] t₀ t′ st₀ st′))
 
@@ -349,10 +247,8 @@ module _ (text : List ℕ) {s : List ℕ} {from end top : ℕ} (k : ℕ) (t₀ :
   pub pairs-next : {at next : ℕ} {t t₁ : List ℕ} {st r : State} → at < end → NextItem s at end next → WritesPair text s next top k t t₁ st r
       → (y : Listed (LabelAt s) s from end top) → PairsPart y t at st → PairsPart y t₁ next r
   pairs-next {at} {next} {t} {t₁} {st} {r} l n w y p = let sc = y .scope in
-      left-next l n p (λ x xs e q h. (
-        sound-right (x ∷ []) xs (h .0),
-        λ t′ st′ d. h .1 t′ st′ (emits-as (emits-then (w .by sc x (y .shows) q (sound-left (x ∷ []) xs (h .0))) d) (pairs-then text sc k x xs)),
-      ))
+      left-next l n p (λ x xs e q h. let so = sound-parts (x ∷ []) xs (h .0) in let f = w .by sc x (y .shows) q (so .0) in
+      (so .1, λ t′ st′ d. h .1 t′ st′ (emits-as (emits-then f d) (pairs-then text sc k x xs))))
 
   pub pairs-end : {at : ℕ} {t : List ℕ} {st : State} → end ≤ at → Still st₀ st
       → ((y : Listed (LabelAt s) s from end top) → Sound text (y .scope) (y .all) → PairsPart y t at st)
@@ -362,8 +258,7 @@ module _ (text : List ℕ) {s : List ℕ} {from end top : ℕ} (k : ℕ) (t₀ :
 
 module _ (text : List ℕ) {s : List ℕ} {from end top : ℕ} (first : ℕ) (t₀ : List ℕ) (st₀ : State) where
   abbrev pub TablePart : (y : Listed (CommandAt s) s from end top) (t : List ℕ) (at k : ℕ) (st : State) → Type 0
-  TablePart y t at k st =
-      Left (CommandAt s) s end at (λ rest. Sound text (y .scope) (flat rest)
+  TablePart y t at k st = Left (CommandAt s) s end at (λ rest. Sound text (y .scope) (flat rest)
       × ((t′ : List ℕ) (st′ : State) → Emits (tableAmong text (y .scope) k rest) [] t t′ st st′ → Emits (tableAmong text (y .scope) first (y .all))
       [] t₀ t′ st₀ st′))
 
@@ -375,10 +270,8 @@ module _ (text : List ℕ) {s : List ℕ} {from end top : ℕ} (first : ℕ) (t�
       → TablePart y t₁ next (k + 1) r
   unfolding flat tableAmong
   table-next {at} {next} {k} {sp} {t} {t₁} {st} {r} l n i w y p = let sc = y .scope in
-      left-next l n p (λ ls lss e q h. (
-        sound-right ls (flat lss) (h .0),
-        λ t′ st′ d. h .1 t′ st′ (emits-then (w .by (own-labels i y ls q) (sound-left ls (flat lss) (h .0))) d),
-      ))
+      left-next l n p (λ ls lss e q h. let so = sound-parts ls (flat lss) (h .0) in let f = w .by (own-labels i y ls q) (so .0) in
+      (so .1, λ t′ st′ d. h .1 t′ st′ (emits-then f d)))
 
   pub table-end : {at : ℕ} (k : ℕ) {t : List ℕ} {st : State} → end ≤ at → Still st₀ st
       → ((y : Listed (CommandAt s) s from end top) → Sound text (y .scope) (flat (y .all)) → TablePart y t at k st)
@@ -388,41 +281,27 @@ module _ (text : List ℕ) {s : List ℕ} {from end top : ℕ} (first : ℕ) (t�
 
 -- ---- what the code's own definitions say of such labels
 
-pub record IsGood (j : Judged) : Type 0 where
-  pub value : ℕ
-  pub is : j ≡ good value
-
 fault-not : {A : Type 0} {place number : ℕ} → fault place number ≡ [] → A
 fault-not {place = place} {number} e = let z : length (fault place number) ≡ 0 = ap length e in absurd (omega arith)
 
 found-good : (c : Constant) (n : Name) (f : N.Found) → faultsOf (ofFound c n f) ≡ [] → IsGood (ofFound c n f)
-found-good c n N.unknown e = fault-not e
-found-good c n (N.known (N.local k)) e = fault-not e
-found-good c n (N.known (N.global k)) e = fault-not e
-found-good c n (N.known (N.manifest v)) e = record { value = signed (c .minus) v; is = refl }
-found-good c n (N.known (N.function k)) e = fault-not e
-
-simple-good : (text : List ℕ) (sc : Scope) (c : Constant) (x : Simple) → faultsOf (ofSimple text sc c x) ≡ [] → IsGood (ofSimple text sc c x)
-simple-good text sc c (T.literal v) e = record { value = signed (c .minus) v; is = refl }
-simple-good text sc c (T.known n) e = found-good c n (lookup text sc n) e
+found-good c n f = of-found (λ x. faultsOf x ≡ [] → IsGood x) c n f (λ z e. fault-not e) (λ v z e. record { value = signed (c .minus) v; is = refl })
+    (λ e. fault-not e)
 
 judged-good : (text : List ℕ) (sc : Scope) (c : Constant) → faultsOf (judge text sc c) ≡ [] → IsGood (judge text sc c)
 unfolding judge
-judged-good text sc c e = simple-good text sc c (c .simple) e
-
-case-good : (place : ℕ) (x : Judged) (seen : List CaseLabel) → doubledCase place x seen ≡ [] → faultsOf x ≡ []
-case-good place (good v) seen e = refl
-case-good place (refused fs) seen e = e
+judged-good text sc c = elim (c .simple) as (λ x. faultsOf (ofSimple text sc c x) ≡ [] → IsGood (ofSimple text sc c x))
+    [ T.literal v ↦ λ e. record { value = signed (c .minus) v; is = refl } | T.known n ↦ λ e. found-good c n (lookup text sc n) e ]
 
 sound-doubled : (text : List ℕ) (sc : Scope) (before ls : List Label) → doubled text sc before ls ≡ [] → Sound text sc ls
 unfolding doubled
 sound-doubled text sc before [] e = noLabel
 sound-doubled text sc before (T.case p c ∷ ls) e =
     let a = doubledLabel text sc (labelsOf text sc before) (T.case p c) in let b = doubled text sc (before ++ (T.case p c ∷ [])) ls in
-    let g = judged-good text sc c (case-good p (judge text sc c) (labelsOf text sc before) (nil-left a b e)) in
+    let g = judged-good text sc c (elim (judge text sc c) as (λ x. doubledCase p x (labelsOf text sc before) ≡ [] → faultsOf x ≡ [])
+    [ good v ↦ λ e. refl | refused fs ↦ λ e. e ] (nil-left a b e)) in
     L.goodCase (g .value) (g .is) (sound-doubled text sc (before ++ (T.case p c ∷ [])) ls (nil-right a b e))
-sound-doubled text sc before (T.default p ∷ ls) e =
-    let a = doubledLabel text sc (labelsOf text sc before) (T.default p) in
+sound-doubled text sc before (T.default p ∷ ls) e = let a = doubledLabel text sc (labelsOf text sc before) (T.default p) in
     anyDefault (sound-doubled text sc (before ++ (T.default p ∷ [])) ls (nil-right a (doubled text sc (before ++ (T.default p ∷ [])) ls) e))
 
 sound-then : {text : List ℕ} {sc : Scope} (ls ms : List Label) → Sound text sc ls → Sound text sc ms → Sound text sc (ls ++ ms)
@@ -449,36 +328,31 @@ pub count-is : (text : List ℕ) (sc : Scope) (h : ℕ) (cs : Commands) → Soun
     → caseCount (caseList text sc h cs) ≡ caseItems (flat (marks cs))
 unfolding caseCount caseList caseItems marks flat
 count-is text sc h T.noCommands s = refl
-count-is text sc h (T.andCommand c cs) s =
-    let ls = labelsBefore c in let ms = flat (marks cs) in
-    omega (arith, cases-are text sc ls (sound-left ls ms s), count-is text sc h cs (sound-right ls ms s), cases-then ls ms)
+count-is text sc h (T.andCommand c cs) s = let ls = labelsBefore c in let ms = flat (marks cs) in let so = sound-parts ls ms s in
+    omega (arith, cases-are text sc ls (so .0), count-is text sc h cs (so .1), cases-then ls ms)
 
 pub default-is : (text : List ℕ) (sc : Scope) (h l done : ℕ) (cs : Commands)
     → G.defaultOf l done (caseList text sc h cs) ≡ defaultAmong text sc l done (marks cs)
 unfolding G.defaultOf caseList marks defaultAmong
 default-is text sc h l done T.noCommands = refl
-default-is text sc h l done (T.andCommand c cs) =
-    let a : suc l ≡ l + 1 = omega arith in
+default-is text sc h l done (T.andCommand c cs) = let a : suc l ≡ l + 1 = omega arith in
     ap (cond (hasDefault (labelsOf text sc (labelsBefore c))) l) (rw (a, default-is text sc h (l + 1) done cs))
 
 pub table-is : (text : List ℕ) (sc : Scope) (h l : ℕ) (cs : Commands) → G.tableOf l (caseList text sc h cs) ≡ tableAmong text sc l (marks cs)
 unfolding G.tableOf caseList marks tableAmong
 table-is text sc h l T.noCommands = refl
-table-is text sc h l (T.andCommand c cs) =
-    let a : suc l ≡ l + 1 = omega arith in
-    rw (a, table-is text sc h (l + 1) cs)
+table-is text sc h l (T.andCommand c cs) = let a : suc l ≡ l + 1 = omega arith in rw (a, table-is text sc h (l + 1) cs)
 
 pub table-gave : (text : List ℕ) {s : List ℕ} {from end top first done m d : ℕ} {t t₁ t₂ t₃ t₄ : List ℕ} {st a b c r : State}
     → Emits (G.X 23 ∷ []) [] t t₁ st a → CountsAll s from end m → Emits (G.D m ∷ []) [] t₁ t₂ a b → FindsDefault s from end first done d → Emits
     (G.DL d ∷ []) [] t₂ t₃ b c → WritesAll text s from end top first t₃ t₄ c r → WritesTable text s from end top first done t t₄ st r
-table-gave text {s} {from} {end} {top} {first} {done} {m} {d} {t} {t₄ = t₄} {st} {r = r} x n e f g w = record {
-  worst = k .worst;
-  label = k .label;
-  by = λ y h none. let sc = y .scope in let cs = y .commands in let u = list-of y in let so = sound-all text sc [] cs none in let en : m ≡ caseCount
-      (caseList text sc h cs) = n .by (marks cs) (u .row) ∙ sym (count-is text sc h cs so) in let ed : d ≡ G.defaultOf first done
-      (caseList text sc h cs) = f .by (marks cs) (u .row) text sc ∙ sym (default-is text sc h first done cs) in
-      emits-as (emits-then x (emits-then e (emits-then g (w .by u so)))) (rw (en, ed, table-is text sc h first cs));
-}
-  where
-    k : Still st r
-    k = still-then (emits-still x) (still-then (emits-still e) (still-then (emits-still g) (w .still)))
+table-gave text {first = first} {done} {m} {d} {st = st} {r = r} x n e f g w =
+    let k : Still st r = still-then (emits-still x) (still-then (emits-still e) (still-then (emits-still g) (w .still))) in record {
+      worst = k .worst;
+      label = k .label;
+      by = λ y h none. let sc = y .scope in let cs = y .commands in let u = list-of y in let so = sound-all text sc [] cs none in
+          let en : m ≡ caseCount (caseList text sc h cs) = n .by (marks cs) (u .row) ∙ sym (count-is text sc h cs so) in
+          let ed : d ≡ G.defaultOf first done (caseList text sc h cs) = f .by (marks cs) (u .row) text sc ∙ sym
+          (default-is text sc h first done cs) in
+          emits-as (emits-then x (emits-then e (emits-then g (w .by u so)))) (rw (en, ed, table-is text sc h first cs));
+    }

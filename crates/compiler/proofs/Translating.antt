@@ -89,52 +89,39 @@ module _ {source s s′ : List ℕ} {a : SymbolsRead} (short : length source ≤
   unfolding symbolsRead tooLong
   both-ways = rw (le-ltb 16384 (length source) short, le-ltb (length s) (length source * 3) room) refl
 
-  symbols-told : a ≡ outcome (length s) (symbolsOf source) .answer
-  symbols-told = rw (r .answers, both-ways)
-
   pub symbols-left : (x : Symbols) → symbolsOf source ≡ x → s′ ≡ outcome (length s) x .scratch
   symbols-left x e = r .leaves ∙ (rw (both-ways, e))
+
+  -- the symbols, or a refusal
+  by-symbols : (P : Type 0) → ((ss : List Symbol) → symbolsOf source ≡ good ss → a ≡ YA.Read (length ss) → P)
+      → ((number place : ℕ) → symbolsOf source ≡ faulty number place → a ≡ YA.Refused number place → P) → P
+  by-symbols P f g = elim (symbolsOf source) as (λ x. symbolsOf source ≡ x → a ≡ outcome (length s) x .answer → P)
+      [ good ss ↦ f ss | faulty number place ↦ g number place ] refl (r .answers ∙ rw both-ways)
 
 module _ {source s s′ : List ℕ} {a : SymbolsRead} (l : Lent source (length s)) (r : Reads source s a s′) where
   room : length source * 3 ≤ length s
   room = omega arith
 
-  answer-is : a ≡ outcome (length s) (symbolsOf source) .answer
-  answer-is = symbols-told (l .short) room r
-
   pub ready-symbols : {count : ℕ} → length s′ ≡ length s → a ≡ YA.Read count → ReadySymbols source s′ count
-  ready-symbols {count} same e = go (symbolsOf source) refl (sym e ∙ answer-is) (symbols-left (l .short) room r (symbolsOf source) refl)
-    where
-      go : (x : Symbols) → symbolsOf source ≡ x → YA.Read count ≡ outcome (length s) x .answer → s′ ≡ outcome (length s) x .scratch
-          → ReadySymbols source s′ count
-      go (good ss) q w z =
-          let k : count ≡ length ss = cc in let stand = z ∙ ap (λ (n : ℕ). outcome n (good ss) .scratch) (sym same) in
-          record { lent = lent-still l same; symbols = ss; reads = q; counts = k; stand = stand }
-      go (faulty number place) q w z = contradiction cc
+  ready-symbols {count} same e = by-symbols (l .short) room r (ReadySymbols source s′ count) (λ ss q w. record {
+    lent = lent-still l same;
+    symbols = ss;
+    reads = q;
+    counts = cc;
+    stand = symbols-left (l .short) room r (good ss) q ∙ ap (λ (n : ℕ). outcome n (good ss) .scratch) (sym same);
+  }) (λ number place q w. contradiction cc)
 
   pub symbols-answer : {number place : ℕ} {t t′ : List ℕ} {w : Refusal} → a ≡ YA.Refused number place → w ≡ refusal source number place
       → Translates source s s′ t t′ (C.Refused w)
-  symbols-answer {number} {place} {t} e q =
-      let k : symbolsOf source ≡ faulty number place = go (symbolsOf source) (sym e ∙ answer-is) in
-      refusing q (symbols-refused l (length t) number place k) (symbols-left (l .short) room r (faulty number place) k)
-    where
-      go : (x : Symbols) → YA.Refused number place ≡ outcome (length s) x .answer → x ≡ faulty number place
-      go (good ss) w = contradiction cc
-      go (faulty m p) w = let k : m ≡ number = cc in let j : p ≡ place = cc in rw (k, j) refl
+  symbols-answer {number} {place} {t} {t′} {w} e q = by-symbols (l .short) room r (Translates source s s′ t t′ (C.Refused w))
+      (λ ss z v. contradiction cc) (λ m p z v. let i : m ≡ number = cc in let j : p ≡ place = cc in
+      refusing q (symbols-refused l (length t) m p z ∙ rw (i, j)) (symbols-left (l .short) room r (faulty m p) z))
 
   pub never-long : a ≡ YA.TooLong → ⊥
-  never-long e = go (symbolsOf source) (sym e ∙ answer-is)
-    where
-      go : (x : Symbols) → YA.TooLong ≡ outcome (length s) x .answer → ⊥
-      go (good ss) w = contradiction cc
-      go (faulty m p) w = contradiction cc
+  never-long e = by-symbols (l .short) room r ⊥ (λ ss q w. contradiction cc) (λ number place q w. contradiction cc)
 
   pub never-short : a ≡ YA.TooShort → ⊥
-  never-short e = go (symbolsOf source) (sym e ∙ answer-is)
-    where
-      go : (x : Symbols) → YA.TooShort ≡ outcome (length s) x .answer → ⊥
-      go (good ss) w = contradiction cc
-      go (faulty m p) w = contradiction cc
+  never-short e = by-symbols (l .short) room r ⊥ (λ ss q w. contradiction cc) (λ number place q w. contradiction cc)
 
 -- ---- after `read_tree`, which is lent eight entries a symbol and 64
 
@@ -160,63 +147,48 @@ module _ {source s : List ℕ} {count : ℕ} (y : ReadySymbols source s count) w
   size : length ss ≡ count * 3
   size = omega (arith, entries-size (y .symbols))
 
-  long : length (padded most ss) ≡ most
-  long = padded-long ss most (omega (arith, size))
-
-  stands : s ≡ padded most ss ++ replicate (length s - most) 0
-  stands = y .stand ∙ padded-on ss most (omega (arith, size)) (length s) tree-room
-
-  lent-is : take most s ≡ padded most ss
-  lent-is = ap (take most) stands ∙ take-at (padded most ss) (replicate (length s - most) 0) most long
-
-  rest-is : drop most s ≡ replicate (length s - most) 0
-  rest-is = ap (drop most) stands ∙ drop-at (padded most ss) (replicate (length s - most) 0) most long
+  -- what is lent, and zeros behind it
+  lent-parts : (take most s ≡ padded most ss) × (drop most s ≡ replicate (length s - most) 0)
+  lent-parts = let zeros = replicate {A = ℕ} (length s - most) 0 in let l = padded-long ss most (omega (arith, size)) in
+      let e = y .stand ∙ padded-on ss most (omega (arith, size)) (length s) tree-room in
+      (ap (take most) e ∙ take-at (padded most ss) zeros most l, ap (drop most) e ∙ drop-at (padded most ss) zeros most l)
 
   fits : tooShort (length (take most s)) count ≡ false
   unfolding tooShort
-  fits =
-      let small : most ≤ 2 ^ 32 - 1 = omega (arith, few) in
+  fits = let small : most ≤ 2 ^ 32 - 1 = omega (arith, few) in
       rw (length-take-le most s tree-room, le-ltb most most (omega arith), le-ltb (2 ^ 32 - 1) most small) refl
 
   source-is : sourceIn (take most s) count (length source) ≡ src
   unfolding sourceIn
-  source-is =
-      ap (λ (z : List Symbol). record { symbols = z; size = length source }) (ap (λ (n : ℕ). decoded n (take most s)) (y .counts)
-      ∙ (ap (decoded (length (y .symbols))) lent-is ∙ decoded-entries (y .symbols) (replicate (most - length ss) 0)))
+  source-is = ap (λ (z : List Symbol). record { symbols = z; size = length source }) (ap (λ (n : ℕ). decoded n (take most s)) (y .counts)
+      ∙ (ap (decoded (length (y .symbols))) (lent-parts .0) ∙ decoded-entries (y .symbols) (replicate (most - length ss) 0)))
 
   symbols-first : take (count * 3) (take most s) ≡ ss
-  symbols-first = ap (take (count * 3)) lent-is ∙ take-at ss (replicate (most - length ss) 0) (count * 3) size
+  symbols-first = ap (take (count * 3)) (lent-parts .0) ∙ take-at ss (replicate (most - length ss) 0) (count * 3) size
 
   module _ {front : List ℕ} {a : TreeRead} (r : ReadsTree (take most s) count (length source) a front) where
-    answer-by : a ≡ R.answerOf src count (treeOf src)
-    unfolding treeRead
-    answer-by = r .answers ∙ rw (fits, source-is) refl
-
-    left-by : front ≡ leftBy count (take most s) (treeOf src)
-    unfolding treeLeft
-    left-by = r .leaves ∙ rw (fits, source-is) refl
+    tree-told : (a ≡ R.answerOf src count (treeOf src)) × (front ≡ leftBy count (take most s) (treeOf src))
+    unfolding treeRead treeLeft
+    tree-told = (r .answers ∙ rw (fits, source-is) refl, r .leaves ∙ rw (fits, source-is) refl)
 
     abbrev s′ : List ℕ
     s′ = front ++ drop most s
 
     -- the zeros behind what is lent go on
-    whole : (w : List ℕ) → length w ≤ most → front ≡ padded (length (take most s)) w → s′ ≡ padded (length s) w
-    whole w h e =
-        let f : front ≡ padded most w = rw (e, length-take-le most s tree-room) in
-        rw (rest-is, f, padded-on w most h (length s) tree-room)
-
-    as-long : (w : List ℕ) → length w ≤ most → s′ ≡ padded (length s) w → length s′ ≡ length s
-    as-long w h e = ap length e ∙ padded-long w (length s) (omega (arith, tree-room))
+    whole : (w : List ℕ) → length w ≤ most → front ≡ padded (length (take most s)) w → (s′ ≡ padded (length s) w) × (length s′ ≡ length s)
+    whole w h e = let f : front ≡ padded most w = rw (e, length-take-le most s tree-room) in
+        let g : s′ ≡ padded (length s) w = rw (lent-parts .1, f, padded-on w most h (length s) tree-room) in
+        (g, ap length g ∙ padded-long w (length s) (omega (arith, tree-room)))
 
     pub ready-tree : {end : ℕ} → a ≡ RA.Read end → ReadyTree source s′ count end
-    ready-tree {end} e = go (treeOf src) refl (sym e ∙ answer-by) left-by
+    ready-tree {end} e = go (treeOf src) refl (sym e ∙ tree-told .0) (tree-told .1)
       where
         go : (o : Out Program) → treeOf src ≡ o → RA.Read end ≡ R.answerOf src count o → front ≡ leftBy count (take most s) o
             → ReadyTree source s′ count end
         go (ok p next) q w z =
             let k : end ≡ count * 3 + length (encodeProgram p) = cc in let within : end ≤ count * 8 = subst (Within (count * 8)) e (r .room) in
             let all : List ℕ = ss ++ encodeProgram p in let few : length all ≤ most = omega (arith, length-append ss (encodeProgram p), size) in
-            let stand = whole all few (rw (z, symbols-first)) in let same = as-long all few stand in
+            let u = whole all few (rw (z, symbols-first)) in let stand = u .0 in let same = u .1 in
             record {
               lent = lent-still (y .lent) same;
               symbols = y .symbols;
@@ -235,24 +207,21 @@ module _ {source s : List ℕ} {count : ℕ} (y : ReadySymbols source s count) w
     pub tree-answer : {number place : ℕ} {t t′ z : List ℕ} {w : Refusal} → a ≡ RA.Refused number place → w ≡ refusal source number place
         → z ≡ take 0 (take (count * 3) s′) ++ replicate (length (take (count * 3) s′) - 0) 0
         → Translates source s (z ++ drop (count * 3) s′) t t′ (C.Refused w)
-    tree-answer {number} {place} {t} {t′} {z} {w} e q c = go (treeOf src) refl (sym e ∙ answer-by) left-by
+    tree-answer {number} {place} {t} {t′} {z} {w} e q c = go (treeOf src) refl (sym e ∙ tree-told .0) (tree-told .1)
       where
         go : (o : Out Program) → treeOf src ≡ o → RA.Refused number place ≡ R.answerOf src count o → front ≡ leftBy count (take most s) o
             → Translates source s (z ++ drop (count * 3) s′) t t′ (C.Refused w)
         go (ok p next) k v l = contradiction cc
         go (no m at) k v l =
-            let i : m ≡ number = cc in let j : placeAt src at ≡ place = cc in let few : length ss ≤ most = omega (arith, size) in let stand = whole ss
-            few (l ∙ ap (padded (length (take most s))) symbols-first) in let same = as-long ss few stand in let clean : Clean (count * 3) s′
+            let i : m ≡ number = cc in let j : placeAt src at ≡ place = cc in let few : length ss ≤ most = omega (arith, size) in let u = whole ss
+            few (l ∙ ap (padded (length (take most s))) symbols-first) in let stand = u .0 in let same = u .1 in let clean : Clean (count * 3) s′
             = padded-clean ss (length s) stand (omega (arith, size)) in
             refusing q (tree-refused (y .lent) (length t) (y .symbols) m at (y .reads) k ∙ rw (i, j) refl)
             (rw (clean-all clean (symbols-room same) c, same))
 
     pub never-unfit : a ≡ RA.TooShort → ⊥
-    never-unfit e = go (treeOf src) (sym e ∙ answer-by)
-      where
-        go : (o : Out Program) → RA.TooShort ≡ R.answerOf src count o → ⊥
-        go (ok p next) w = contradiction cc
-        go (no m at) w = contradiction cc
+    never-unfit e = elim (treeOf src) as (λ o. RA.TooShort ≡ R.answerOf src count o → ⊥)
+        [ ok p next ↦ λ w. contradiction cc | no m at ↦ λ w. contradiction cc ] (sym e ∙ tree-told .0)
 
 -- ---- the scratch that is lent on
 
@@ -280,6 +249,5 @@ module _ {source s : List ℕ} (v : Serves source s) where
   pub more-scratch : {s′ front t t′ : List ℕ} {a : Compiled} → Translates source (take (asked source) s) front t t′ a
       → s′ ≡ take (asked source) (front ++ drop (asked source) s) ++ replicate (length (front ++ drop (asked source) s) - asked source) 0
       → Translates source s s′ t t′ a
-  more-scratch {s′} {front} {t} x c =
-      let enough = enough-scratch {m = length s} front-lent (omega (arith, front-long)) (length t) in
+  more-scratch {s′} {front} {t} x c = let enough = enough-scratch {m = length s} front-lent (omega (arith, front-long)) (length t) in
       decided-alike x (by-parsed front-lent (length t) ∙ sym enough) (zeros-behind s front (asked source) front-long (v .long) (x .clears) c)

@@ -14,3 +14,17 @@ unfoldable pub use Rattle.compiler.specs.Walks.{chainCode, chainHeights,
 pub use Rattle.compiler.specs.Scope.{Keeps, Looked, Pushed, PushedName, Shows, Told, Worded, nameAt, named, nothing}
 unfoldable pub use Rattle.compiler.specs.Scope.{code, found}
 pub use Rattle.compiler.specs.Fine.{FineC, FineCs, FineE, FineEs, FineLs, FineOs, FinePlain, FineRs, FineSs, STRINGS}
+pub use Rattle.compiler.specs.Commands.{Again, Declares, FineRepeated, GaveC, GaveCase, GaveCases, GaveForm, GaveForms, GaveList, GaveR, GaveU}
+pub use Rattle.compiler.specs.Commands.{GoesAway, ReadyC, ReadyCases, ReadyForm, ReadyForms, ReadyList, ReadyNames, ReadyR, ReadyU, casesSays}
+pub use Rattle.compiler.specs.Commands.{Repeated, cmdSays, cmdsSays, deepRepeated, encodeRepeated, formSays}
+unfoldable pub use Rattle.compiler.specs.Commands.{casesFaults, entriesIn}
+pub use Rattle.compiler.specs.Switching.{JudgesBy, JudgesLabels, Misplaces, ReadyLabels, ReadyMisplaced, WritesTable, byJudged, tableItems}
+unfoldable pub use Rattle.compiler.specs.Switching.{labelFaults}
+pub use Rattle.compiler.specs.Groups.{CountsFunctions, CountsGroup, Enters, FineB, FineDs, FineF, FineFs, GaveBody, GaveF, GaveFs, GroupNames}
+pub use Rattle.compiler.specs.Groups.{NameFaults, ReadyBody, ReadyF, ReadyFs, ReadyGroup, Starting, Taken, bodySays, encodeFunction}
+pub use Rattle.compiler.specs.Groups.{functionDepth, functionSays, functionsSays, started}
+unfoldable pub use Rattle.compiler.specs.Groups.{Small, functionCount, innerLabels, startsIn}
+pub use Rattle.compiler.specs.Programs.{GaveDeclaration, GaveProgram, ReadyDeclaration, ReadyProgram, Stands, Yields, declaredWord}
+pub use Rattle.compiler.specs.Programs.{encodeDeclared}
+unfoldable pub use Rattle.compiler.specs.Programs.{startsOf}
+pub use Rattle.compiler.specs.declared.steps.Verdict.{Verdict}
