@@ -1,3 +1,4 @@
+pub mod Asked
 pub mod Steps
 pub mod Lists
 pub mod ListEnd
