@@ -1,4 +1,4 @@
--- Loops, switches and blocks: lists of commands and of local declarations. 
+-- Loops, switches and blocks: lists of commands and of local declarations.
 use Rattle.tree.proofs.phrases.+also+arg+bare+block+body+call+cases+cmd+expr+form+forms+give+index+init+item+key+lets+list+local+monad+nest+op+pass+pick+plain+redo+rest+run+set+step+tail+tails+term+test+till+unit+valof+when+whole as cycle
 use Rattle.language.specs.Kinds as K
 use Rattle.language.specs.Tree as T
@@ -14,7 +14,7 @@ use Rattle.tree.proofs.Lets.{values-read, one-name, vector-is, vector-n
 use Rattle.tree.proofs.Lists.{Before}
 use Rattle.tree.proofs.Loops.{SoFar, before-first, before-next, before-last, wordless, so-begins, many-turns, many-ends, many-spent}
 use Rattle.tree.proofs.Loops.{list-spents, list-ends, list-semicolon-ends, list-goes-on}
-use Rattle.tree.proofs.Rooms.{left, taken, room-left, room-taken, takes-more, takes-none, ready-leaves, ready-takes, _plus_, _less_}
+use Rattle.tree.proofs.Rooms.{past-symbol, past-part, past-expression, left, taken, room-left, room-taken, takes-more, takes-none, ready-leaves, ready-takes, _plus_, _less_}
 use Rattle.tree.proofs.Rooms.{ready-part, item-low, size-small, freed, measured}
 use Rattle.tree.proofs.Steps.{pair, goes-on, adds-on, _then_}
 use Rattle.tree.proofs.Symbols.{lies-still}
@@ -35,36 +35,54 @@ step-returns t c =
     .before in let after-optional-by = after-free-of2 .before .before .before .before in let after-expr2 = after-optional-by .before .before .before
     .before in let after-expect3 = after-expr2 .before .before in let after-expr = after-expect3 .before .before .before .before in let after-expect2
     = after-expr .before .before in let after-a-name = after-expect2 .before .before .before .before in let after-expect = after-a-name .before
-    .before in let after-free-of = after-expect .before .before in pair (room-left (left (after-expect .expect .ensures .1 .0) plus (after-a-name
-    .a-name .ensures .1 .0) plus (after-expect2 .expect2 .ensures .1 .0) plus (after-expr .expr .ensures .1 .0) plus (after-expect3 .expect3 .ensures
-    .1 .0) plus (after-expr2 .expr2 .ensures .1 .0) plus (after-optional-by .optional-by .ensures .1 .0) plus (after-expect4 .expect4 .ensures .1 .0)
-    plus (after-cmd .cmd .ensures .1 .0) less (after-node .node .ensures .1 .0)) refl) (λ src l. (let l₂ = lies-still l (after-a-name .a-name .ensures
-    .1 .0 .kept) in let l₄ = lies-still l₂ (after-expr .expr .ensures .1 .0 .kept) in let l₆ = lies-still l₄ (after-expr2 .expr2 .ensures .1 .0 .kept)
-    in let l₇ = lies-still l₆ (after-optional-by .optional-by .ensures .1 .0 .kept) in for-read l _ _ (after-free-of .free-of .ensures .1)
-    (after-expect .expect .ensures .1 .1 src l) (after-a-name .a-name .ensures .1 .1 src l) (after-expect2 .expect2 .ensures .1 .1 src l₂) (after-expr
-    .expr .ensures .1 .1 src l₂) (after-expect3 .expect3 .ensures .1 .1 src l₄) (after-expr2 .expr2 .ensures .1 .1 src l₄) (after-optional-by
-    .optional-by .ensures .1 .1 src l₆) (after-expect4 .expect4 .ensures .1 .1 src l₇) (after-cmd .cmd .ensures .1 .1 src l₇) (omega ( arith,
-    after-minus .minus .ensures .1, freed _ (after-free-of2 .free-of2 .ensures .1) (after-optional-by .optional-by .kept .0 ∙ after-expr2 .expr2 .kept
-    .0 ∙ after-expr .expr .kept .0 ∙ after-a-name .a-name .kept .0), freed _ (after-free-of3 .free-of3 .ensures .1) (after-optional-by .optional-by
-    .kept .0 ∙ after-expr2 .expr2 .kept .0 ∙ after-expr .expr .kept .0 ∙ after-a-name .a-name .kept .0), )) (after-node .node .ensures .1 .1)))
+    .before in let after-free-of = after-expect .before .before in pair
+    (room-left (left (after-expect .expect .ensures .1 .0) plus (after-a-name .a-name .ensures .1 .0) plus (after-expect2 .expect2 .ensures .1 .0)
+    plus (after-expr .expr .ensures .1 .0) plus (after-expect3 .expect3 .ensures .1 .0) plus (after-expr2 .expr2 .ensures .1 .0) plus
+    (after-optional-by .optional-by .ensures .1 .0) plus (after-expect4 .expect4 .ensures .1 .0) plus (after-cmd .cmd .ensures .1 .0) less (after-node
+    .node .ensures .1 .0)) refl) (λ src l. (let l₂ = lies-still l (after-a-name .a-name .ensures .1 .0 .kept) in let l₄ = lies-still l₂ (after-expr
+    .expr .ensures .1 .0 .kept) in let l₆ = lies-still l₄ (after-expr2 .expr2 .ensures .1 .0 .kept) in let l₇ = lies-still l₆ (after-optional-by
+    .optional-by .ensures .1 .0 .kept) in for-read l _ _ (after-free-of .free-of .ensures .1) (after-expect .expect .ensures .1 .1 src l)
+    (after-a-name .a-name .ensures .1 .1 src l) (after-expect2 .expect2 .ensures .1 .1 src l₂) (after-expr .expr .ensures .1 .1 src l₂) (after-expect3
+    .expect3 .ensures .1 .1 src l₄) (after-expr2 .expr2 .ensures .1 .1 src l₄) (after-optional-by .optional-by .ensures .1 .1 src l₆) (after-expect4
+    .expect4 .ensures .1 .1 src l₇) (after-cmd .cmd .ensures .1 .1 src l₇) (omega (
+      arith,
+      after-minus .minus .ensures .1,
+      freed _ (after-free-of2
+          .free-of2 .ensures .1) (after-optional-by .optional-by .kept .0 ∙ after-expr2 .expr2 .kept .0 ∙ after-expr .expr .kept .0 ∙ after-a-name .a-name
+          .kept .0),
+      freed _ (after-free-of3 .free-of3 .ensures .1) (after-optional-by .optional-by .kept .0 ∙ after-expr2 .expr2 .kept .0 ∙ after-expr
+          .expr .kept .0 ∙ after-a-name .a-name .kept .0),
+    )) (after-node .node .ensures .1 .1)))
 
 pub step-ok : {M : Type 1} (t : ℕ) → cycle.Lts-step.Closed (claims-8 (step-cs t)) (at step-rank t) (step-rank .post) M
 step-ok t =
-    knowing (step-cs t) _ (cycle.Lts-step.spec (claims-8 (asked step-cs t)) (at step-rank t) (step-rank .post) (λ c κs. tt) (λ c κs. omega arith) (λ c
-    κs. omega (arith, c .before .expect)) (λ c κs. omega (arith, c .before .before .before .a-name)) (λ c κs. omega (arith, c .before .expect2)) (λ c
-    κs. omega (arith, c .before .before .before .expr)) (λ c κs. omega (arith, c .before .before .before .before .before .before .before .before
-    .before .before .before .before .before .before .before .before .before .before .pre .0, c .before .expect3)) (λ c κs. omega (arith, c .before
-    .before .before .expr2)) (λ c κs. tt) (λ c κs. tt) (λ c κs. tt) (λ c κs. omega (arith, c .before .before .before .before .before .before .before
-    .before .optional-by)) (λ c κs. omega (arith, c .before .before .before .before .before .before .before .before .before .before .before .before
-    .before .before .before .before .before .before .before .before .before .before .before .before .before .before .before .before .before .before
-    .before .before .before .pre .0, c .before .expect4)) (λ c. let expect4 = c .before .before .before .before .before in let minus = expect4 .before
-    .before in let free-of2 = minus .before .before .before in omega (arith, size-small _ (minus .minus .ensures .1) (free-of2 .free-of2 .ensures .1)
-    (expect4 .expect4 .ensures .0 .0))) (λ c κs. ready-leaves (c .before .before .before .cmd .ensures .1 .0) (c .before .before .before .cmd .kept
-    .0) refl (ready-leaves (c .before .before .before .before .before .expect4 .ensures .1 .0) refl refl (c .before .before .before .before .before
-    .expect4 .ensures .0 .0))) (λ c. let node = c .before .before in let cmd = node .before .before .before .before in let optional-by = cmd .before
-    .before .before .before .before .before .before .before .before .before .before in let expr2 = optional-by .before .before .before .before in let
-    expr = expr2 .before .before .before .before .before .before in let a-name = expr .before .before .before .before .before .before in omega (arith,
-    node .node .kept, cmd .cmd .kept, optional-by .optional-by .kept, expr2 .expr2 .kept, expr .expr .kept, a-name .a-name .kept)) (step-returns t))
+    knowing (step-cs t) _
+    (cycle.Lts-step.spec (claims-8 (asked step-cs t)) (at step-rank t) (step-rank .post) (λ c κs. tt) (λ c κs. omega arith)
+    (λ c κs. past-symbol refl (c .before .expect .ensures))
+    (λ c κs. let e = c .before .before .before .a-name in pair (ready-leaves (e .ensures .1 .0) (e .kept .0) refl (e .ensures .0)) (omega arith))
+    (λ c κs. pair (omega arith) (pair (past-symbol refl (c .before .expect2 .ensures)) (omega arith)))
+    (λ c κs. let e = c .before .before .before .expr in pair (past-expression refl (e .ensures) (e .kept .0)) (omega arith))
+    (λ c κs. pair (omega (
+      arith,
+      c .before .before .before .before .before .before .before .before .before .before .before .before .before .before
+          .before .before .before .before .pre .0,
+    )) (pair (past-symbol refl (c .before .expect3 .ensures)) (omega arith)))
+    (λ c κs. let e = c .before .before .before .expr2 in past-expression refl (e .ensures) (e .kept .0)) (λ c κs. tt) (λ c κs. tt) (λ c κs. tt)
+    (λ c κs. let e = c .before .before .before .before .before .before .before .before .optional-by in pair (ready-leaves (e .ensures .1 .0) (e .kept
+    .0) refl (e .ensures .0)) (omega arith)) (λ c κs. pair (omega (
+      arith,
+      c .before .before .before .before .before .before .before .before .before
+          .before .before .before .before .before .before .before .before .before .before .before .before .before .before .before .before .before .before
+          .before .before .before .before .before .before .pre .0,
+    )) (past-symbol refl (c .before .expect4 .ensures)))
+    (λ c. let expect4 = c .before .before .before .before .before in let minus = expect4 .before .before in let free-of2 = minus .before .before
+    .before in omega (arith, size-small _ (minus .minus .ensures .1) (free-of2 .free-of2 .ensures .1) (expect4 .expect4 .ensures .0 .0)))
+    (λ c κs. ready-leaves (c .before .before .before .cmd .ensures .1 .0) (c .before .before .before .cmd .kept .0) refl (past-symbol refl (c .before
+    .before .before .before .before .expect4 .ensures))) (λ c. let node = c .before .before in let cmd = node .before .before .before .before in let
+    optional-by = cmd .before .before .before .before .before .before .before .before .before .before .before in let expr2 = optional-by .before
+    .before .before .before in let expr = expr2 .before .before .before .before .before .before in let a-name = expr .before .before .before .before
+    .before .before in node .node .kept .0 ∙ cmd .cmd .kept .0 ∙ optional-by .optional-by .kept .0 ∙ expr2 .expr2 .kept .0 ∙ expr .expr .kept .0 ∙
+    a-name .a-name .kept .0) (step-returns t))
 
 abbrev pick-cs : ℕ → List Callee
 pick-cs t = free-of ∷ expect ∷ below expr-rank t ∷ minus ∷ below item-rank t ∷ below list-rank t ∷ node ∷ []
@@ -74,29 +92,38 @@ pick-returns t c =
     let after-node = c .before .before in let after-list = after-node .before .before .before .before in let after-item = after-list .before .before
     .before .before in let after-expect3 = after-item .before .before in let after-expect2 = after-expect3 .before .before in let after-minus =
     after-expect2 .before .before in let after-free-of2 = after-minus .before in let after-expr = after-free-of2 .before .before .before .before in
-    let after-expect = after-expr .before .before in let after-free-of = after-expect .before .before in pair (room-left (left (after-expect .expect
-    .ensures .1 .0) plus (after-expr .expr .ensures .1 .0) plus (after-expect2 .expect2 .ensures .1 .0) plus (after-expect3 .expect3 .ensures .1 .0)
-    less (after-item .item .ensures .1 .0) plus (after-list .list .ensures .1 .0) less (after-node .node .ensures .1 .0)) refl) (λ src l. (let l₂ =
-    lies-still l (after-expr .expr .ensures .1 .0 .kept) in let l₃ = lies-still l₂ (after-item .item .ensures .1 .0 .kept) in switchon-read l _ _
-    (after-free-of .free-of .ensures .1) (after-expect .expect .ensures .1 .1 src l) (after-expr .expr .ensures .1 .1 src l) (after-expect2 .expect2
-    .ensures .1 .1 src l₂) (after-expect3 .expect3 .ensures .1 .1 src l₂) (after-item .item .ensures .1 .1 src l₂) (after-list .list .ensures .1 .1
-    src l₃) (measured _ _ (after-minus .minus .ensures .1) (after-free-of2 .free-of2 .ensures .1) (after-expr .expr .kept .0)) (after-node .node
-    .ensures .1 .1)))
+    let after-expect = after-expr .before .before in let after-free-of = after-expect .before .before in pair
+    (room-left (left (after-expect .expect .ensures .1 .0) plus (after-expr .expr .ensures .1 .0) plus (after-expect2 .expect2 .ensures .1 .0) plus
+    (after-expect3 .expect3 .ensures .1 .0) less (after-item .item .ensures .1 .0) plus (after-list .list .ensures .1 .0) less (after-node .node
+    .ensures .1 .0)) refl) (λ src l. (let l₂ = lies-still l (after-expr .expr .ensures .1 .0 .kept) in let l₃ = lies-still l₂ (after-item .item
+    .ensures .1 .0 .kept) in switchon-read l _ _ (after-free-of .free-of .ensures .1) (after-expect .expect .ensures .1 .1 src l) (after-expr .expr
+    .ensures .1 .1 src l) (after-expect2 .expect2 .ensures .1 .1 src l₂) (after-expect3 .expect3 .ensures .1 .1 src l₂) (after-item .item .ensures .1
+    .1 src l₂) (after-list .list .ensures .1 .1 src l₃) (measured _ _ (after-minus .minus .ensures .1) (after-free-of2 .free-of2 .ensures .1)
+    (after-expr .expr .kept .0)) (after-node .node .ensures .1 .1)))
 
 pub pick-ok : {M : Type 1} (t : ℕ) → cycle.Lts-pick.Closed (claims-7 (pick-cs t)) (at pick-rank t) (pick-rank .post) M
 pick-ok t =
-    knowing (pick-cs t) _ (cycle.Lts-pick.spec (claims-7 (asked pick-cs t)) (at pick-rank t) (pick-rank .post) (λ c κs. tt) (λ c κs. omega arith) (λ c
-    κs. omega (arith, c .before .expect)) (λ c κs. tt) (λ c κs. tt) (λ c κs. omega (arith, c .before .before .before .before .before .before .expr))
-    (λ c κs. omega (arith, c .before .expect2)) (λ c κs. (omega arith, ready-leaves (c .before .expect3 .ensures .1 .0) refl refl (c .before .expect3
-    .ensures .0 .0))) (λ c κs. (omega (arith, c .before .before .before .before .before .before .before .before .before .before .before .before
-    .before .before .before .before .before .before .before .before .before .pre .0), ready-takes (c .before .before .before .item .ensures .1 .0) (c
-    .before .before .before .item .kept .0) (c .before .before .before .item .ensures .0 .1))) (λ c. let expect2 = c .before .before .before .before
-    .before .before .before .before .before .before .before in let minus = expect2 .before .before in let free-of2 = minus .before in omega (arith,
-    size-small _ (minus .minus .ensures .1) (free-of2 .free-of2 .ensures .1) (expect2 .expect2 .ensures .0 .0))) (λ c κs. ready-leaves (c .before
-    .before .before .list .ensures .1 .0) (c .before .before .before .list .kept .0) refl (c .before .before .before .list .ensures .0 .1)) (λ c. let
-    node = c .before .before in let at-list = node .before .before .before .before in let item = at-list .before .before .before .before in let expr =
-    item .before .before .before .before .before .before .before .before .before .before .before in omega (arith, node .node .kept, at-list .list
-    .kept, item .item .kept, expr .expr .kept)) (pick-returns t))
+    knowing (pick-cs t) _
+    (cycle.Lts-pick.spec (claims-7 (asked pick-cs t)) (at pick-rank t) (pick-rank .post) (λ c κs. tt) (λ c κs. omega arith)
+    (λ c κs. pair (omega arith) (pair (past-symbol refl (c .before .expect .ensures)) (omega arith))) (λ c κs. tt) (λ c κs. tt)
+    (λ c κs. let e = c .before .before .before .before .before .before .expr in pair (past-expression refl (e .ensures) (e .kept .0)) (omega arith))
+    (λ c κs. pair (past-symbol refl (c .before .expect2 .ensures)) (omega arith))
+    (λ c κs. pair (omega arith) (past-symbol refl (c .before .expect3 .ensures)))
+    (λ c κs. pair (omega (
+      arith,
+      c .before .before .before .before .before .before .before .before .before .before .before .before .before .before
+          .before .before .before .before .before .before .before .pre .0,
+    )) (ready-takes (c .before .before .before .item .ensures .1 .0) (c .before .before
+    .before .item .kept .0) (c .before .before .before .item .ensures .0 .1)))
+    (λ c. let expect2 = c .before .before .before .before .before .before .before .before .before .before .before in let minus = expect2 .before
+    .before in let free-of2 = minus .before in omega (
+      arith,
+      size-small _ (minus .minus .ensures .1) (free-of2 .free-of2 .ensures .1) (expect2
+          .expect2 .ensures .0 .0),
+    )) (λ c κs. ready-leaves (c .before .before .before .list .ensures .1 .0) (c .before .before .before .list .kept .0) refl
+    (c .before .before .before .list .ensures .0 .1)) (λ c. let node = c .before .before in let at-list = node .before .before .before .before in let
+    item = at-list .before .before .before .before in let expr = item .before .before .before .before .before .before .before .before .before .before
+    .before in node .node .kept .0 ∙ at-list .list .kept .0 ∙ item .item .kept .0 ∙ expr .expr .kept .0) (pick-returns t))
 
 abbrev item-cs : ℕ → List Callee
 item-cs t = free-of ∷ begin-item ∷ below cmd-rank t ∷ set-size ∷ []
@@ -112,19 +139,20 @@ item-returns t c =
 
 pub item-ok : {M : Type 1} (t : ℕ) → cycle.Lts-item.Closed (claims-4 (item-cs t)) (at item-rank t) (item-rank .post) M
 item-ok t =
-    knowing (item-cs t) _ (cycle.Lts-item.spec (claims-4 (asked item-cs t)) (at item-rank t) (item-rank .post) (λ c κs. tt) (λ c κs. omega arith) (λ c
-    κs. (omega arith, ready-takes (c .before .before .before .begin-item .ensures .1 .0) (c .before .before .before .begin-item .kept .0) (c .before
-    .before .before .begin-item .ensures .0))) (λ c κs. let cmd = c .before .before .before in let begin-item = cmd .before .before .before .before in
-    let free-of = begin-item .before .before in (omega (arith, cmd .cmd), item-low (free-of .free-of .ensures .1) (ready-part (begin-item .begin-item
-    .ensures .0) refl))) (λ c. search needs) (item-returns t))
+    knowing (item-cs t) _
+    (cycle.Lts-item.spec (claims-4 (asked item-cs t)) (at item-rank t) (item-rank .post) (λ c κs. tt) (λ c κs. omega arith)
+    (λ c κs. pair (omega arith) (ready-takes (c .before .before .before .begin-item .ensures .1 .0) (c .before .before .before .begin-item .kept .0)
+    (c .before .before .before .begin-item .ensures .0))) (λ c κs. let cmd = c .before .before .before in let begin-item = cmd .before .before .before
+    .before in let free-of = begin-item .before .before in pair (past-part refl (cmd .cmd .ensures) (cmd .cmd .kept .0)) (item-low (free-of .free-of
+    .ensures .1) (ready-part (begin-item .begin-item .ensures .0) refl))) (λ c. search needs) (item-returns t))
 
 abbrev list-cs : ℕ → List Callee
 list-cs t = kind-here ∷ expect ∷ below item-rank t ∷ refuse ∷ []
 
 abbrev list-inv : cycle.Lts-list.InvT-loop
 list-inv s₀ n levels turns₀ a₀ s turns a =
-    SoFar (Before encodeCommands) (moreUpTo turns₀ T.noCommands (C.listed (readers (within levels)))) (moreUpTo turns T.noCommands (C.listed (readers
-    (within levels)))) s₀ s n a₀ a
+    SoFar (Before encodeCommands) (moreUpTo turns₀ T.noCommands (C.listed (readers (within levels))))
+    (moreUpTo turns T.noCommands (C.listed (readers (within levels)))) s₀ s n a₀ a
 
 abbrev list-turns : cycle.Lts-list.MeasureT-loop
 list-turns s₀ n levels turns₀ a₀ s turns a = turns
@@ -138,25 +166,29 @@ list-returns-2 : (t : ℕ) → cycle.Lts-list.Need-returns-2 (claims-4 (asked li
 list-returns-2 t c =
     let after-if2 = c .before .before in let after-kind-here2 = after-if2 .before in let after-expect2 = after-kind-here2 .before .before in let
     after-if1 = after-expect2 .before .before in let after-kind-here = after-if1 .before in let in-loop = after-kind-here .before .before .before in
-    list-semicolon-ends _ _ _ (in-loop .loop .inv) (after-kind-here .kind-here .ensures .1) no-command-words (after-if1 .if1 .left) (after-expect2
-    .expect2 .ensures .1) (after-kind-here2 .kind-here2 .ensures .1) (after-if2 .if2 .taken) (c .expect3 .ensures .1) (omega arith)
+    list-semicolon-ends _ _ _ (in-loop .loop .inv) (after-kind-here .kind-here .ensures .1) no-command-words (after-if1 .if1 .left)
+    (after-expect2 .expect2 .ensures .1) (after-kind-here2 .kind-here2 .ensures .1) (after-if2 .if2 .taken) (c .expect3 .ensures .1) (omega arith)
 
 list-loop-again : (t : ℕ) → cycle.Lts-list.Need-loop-again (claims-4 (asked list-cs t)) (at list-rank t) (list-rank .post) list-inv list-turns
 list-loop-again t c =
     let after-item = c .before .before in let after-if2 = after-item .before .before in let after-kind-here2 = after-if2 .before in let after-expect2
     = after-kind-here2 .before .before in let after-if1 = after-expect2 .before .before in let after-kind-here = after-if1 .before in let in-loop =
     after-kind-here .before .before .before in list-goes-on _ _ _ (in-loop .loop .inv) (after-kind-here .kind-here .ensures .1) (after-if1 .if1 .left)
-    (after-expect2 .expect2 .ensures .1) (after-kind-here2 .kind-here2 .ensures .1) (after-if2 .if2 .left) (takes-more (after-item .item .ensures .1
-    .0) refl) (after-item .item .kept .0) (after-item .item .ensures .1 .1) (omega arith)
+    (after-expect2 .expect2 .ensures .1) (after-kind-here2 .kind-here2 .ensures .1) (after-if2 .if2 .left)
+    (takes-more (after-item .item .ensures .1 .0) refl) (after-item .item .kept .0) (after-item .item .ensures .1 .1) (omega arith)
 
 pub list-ok : {M : Type 1} (t : ℕ) → cycle.Lts-list.Closed (claims-4 (list-cs t)) (at list-rank t) (list-rank .post) M
 list-ok t =
-    knowing (list-cs t) _ (cycle.Lts-list.spec (claims-4 (asked list-cs t)) (at list-rank t) (list-rank .post) list-inv list-turns (λ c. so-begins (c
-    .before .pre .1) before-first) (λ c κs. omega (arith, c .before .before .loop, c .before .before .before .before .pre)) (λ c κs. omega (arith, c
-    .before .before .kind-here)) (λ c. search needs) (list-returns t) (λ c κs. omega (arith, c .before .before .kind-here)) (λ c κs. omega (arith, c
-    .before .expect2)) (λ c κs. omega (arith, c .before .before .kind-here2)) (λ c. search needs) (list-returns-2 t) (λ c κs. (omega arith,
-    ready-leaves (c .before .before .before .before .expect2 .ensures .1 .0) refl refl (c .before .before .before .before .expect2 .ensures .0 .0)))
-    (λ c. omega arith) (λ c. omega arith) (list-loop-again t) (λ c κs. omega (arith, c .before .before .loop, c .before .before .before .before .pre))
+    knowing (list-cs t) _
+    (cycle.Lts-list.spec (claims-4 (asked list-cs t)) (at list-rank t) (list-rank .post) list-inv list-turns
+    (λ c. so-begins (c .before .pre .1) before-first)
+    (λ c κs. ready-leaves (c .before .before .loop .inv .room) (c .before .before .loop .inv .same) refl (c .before .before .before .before .pre .1))
+    (λ c κs. pair (c .before .before .kind-here .ensures .0) (omega arith)) (λ c. search needs) (list-returns t)
+    (λ c κs. pair (c .before .before .kind-here .ensures .0) (omega arith)) (λ c κs. past-symbol refl (c .before .expect2 .ensures))
+    (λ c κs. pair (c .before .before .kind-here2 .ensures .0) (omega arith)) (λ c. search needs) (list-returns-2 t)
+    (λ c κs. pair (omega arith) (past-symbol refl (c .before .before .before .before .expect2 .ensures))) (λ c. omega arith) (λ c. omega arith)
+    (list-loop-again t)
+    (λ c κs. ready-leaves (c .before .before .loop .inv .room) (c .before .before .loop .inv .same) refl (c .before .before .before .before .pre .1))
     (λ c. search needs) (λ c. list-spents _ _ _ (c .before .before .before .loop .inv) (c .refuse .ensures .1) (omega arith)))
 
 abbrev till-cs : ℕ → List Callee
@@ -165,17 +197,19 @@ till-cs t = kind-here ∷ expect ∷ below item-rank t ∷ below list-rank t ∷
 till-returns-3 : (t : ℕ) → cycle.Lts-till.Need-returns-3 (claims-4 (asked till-cs t)) (at till-rank t) (till-rank .post)
 till-returns-3 t c =
     let after-list = c .before .before in let after-item = after-list .before .before .before .before in let after-match = after-item .before .before
-    in let after-kind-here = after-match .before in some-commands _ (after-kind-here .kind-here .ensures .1) (after-match .match .rest) (after-item
-    .item .ensures .1) (after-list .list .ensures .1)
+    in let after-kind-here = after-match .before in some-commands _ (after-kind-here .kind-here .ensures .1) (after-match .match .rest)
+    (after-item .item .ensures .1) (after-list .list .ensures .1)
 
 pub till-ok : {M : Type 1} (t : ℕ) → cycle.Lts-till.Closed (claims-4 (till-cs t)) (at till-rank t) (till-rank .post) M
 till-ok t =
-    knowing (till-cs t) _ (cycle.Lts-till.spec (claims-4 (asked till-cs t)) (at till-rank t) (till-rank .post) (λ c κs. omega arith) (λ c κs. omega
-    arith) (λ c κs. omega arith) (λ c κs. omega (arith, c .before .expect2)) (λ c κs. omega arith) (λ c κs. (omega arith, ready-takes (c .before
-    .before .before .item .ensures .1 .0) (c .before .before .before .item .kept .0) (c .before .before .before .item .ensures .0 .1))) (λ c. search
-    needs) (λ c. no-commands _ (c .before .before .before .kind-here .ensures .1) (c .before .before .match .keys1) (c .expect .ensures .1)) (λ c.
-    search needs) (λ c. semicolon-commands _ (c .before .before .before .before .before .kind-here .ensures .1) (c .before .before .before .before
-    .match .keys2) (c .before .before .expect2 .ensures .1) (c .expect3 .ensures .1)) (λ c. search needs) (till-returns-3 t))
+    knowing (till-cs t) _
+    (cycle.Lts-till.spec (claims-4 (asked till-cs t)) (at till-rank t) (till-rank .post) (λ c κs. omega arith) (λ c κs. omega arith)
+    (λ c κs. omega arith) (λ c κs. pair (past-symbol refl (c .before .expect2 .ensures)) (omega arith)) (λ c κs. omega arith)
+    (λ c κs. pair (omega arith) (ready-takes (c .before .before .before .item .ensures .1 .0) (c .before .before .before .item .kept .0) (c .before
+    .before .before .item .ensures .0 .1))) (λ c. search needs)
+    (λ c. no-commands _ (c .before .before .before .kind-here .ensures .1) (c .before .before .match .keys1) (c .expect .ensures .1))
+    (λ c. search needs) (λ c. semicolon-commands _ (c .before .before .before .before .before .kind-here .ensures .1) (c .before .before .before
+    .before .match .keys2) (c .before .before .expect2 .ensures .1) (c .expect3 .ensures .1)) (λ c. search needs) (till-returns-3 t))
 
 abbrev block-cs : ℕ → List Callee
 block-cs t = free-of ∷ expect ∷ below lets-rank t ∷ minus ∷ below till-rank t ∷ node ∷ []
@@ -184,47 +218,54 @@ block-returns : (t : ℕ) → cycle.Lts-block.Need-returns (claims-6 (asked bloc
 block-returns t c =
     let after-node = c .before .before in let after-till = after-node .before .before .before .before in let after-minus = after-till .before .before
     in let after-free-of2 = after-minus .before in let after-lets = after-free-of2 .before .before .before .before in let after-expect = after-lets
-    .before .before in let after-free-of = after-expect .before .before in pair (room-left (left (after-expect .expect .ensures .1 .0) plus
-    (after-lets .lets .ensures .1 .0) plus (after-till .till .ensures .1 .0) less (after-node .node .ensures .1 .0)) refl) (λ src l. (let l₂ =
-    lies-still l (after-lets .lets .ensures .1 .0 .kept) in block-read l _ _ (after-free-of .free-of .ensures .1) (after-expect .expect .ensures .1 .1
-    src l) (after-lets .lets .ensures .1 .1 src l) (after-till .till .ensures .1 .1 src l₂) (measured _ _ (after-minus .minus .ensures .1)
-    (after-free-of2 .free-of2 .ensures .1) (after-lets .lets .kept .0)) (after-node .node .ensures .1 .1)))
+    .before .before in let after-free-of = after-expect .before .before in pair
+    (room-left (left (after-expect .expect .ensures .1 .0) plus (after-lets .lets .ensures .1 .0) plus (after-till .till .ensures .1 .0) less
+    (after-node .node .ensures .1 .0)) refl) (λ src l. (let l₂ = lies-still l (after-lets .lets .ensures .1 .0 .kept) in block-read l _ _
+    (after-free-of .free-of .ensures .1) (after-expect .expect .ensures .1 .1 src l) (after-lets .lets .ensures .1 .1 src l) (after-till .till
+    .ensures .1 .1 src l₂) (measured _ _ (after-minus .minus .ensures .1) (after-free-of2 .free-of2 .ensures .1) (after-lets .lets .kept .0))
+    (after-node .node .ensures .1 .1)))
 
 pub block-ok : {M : Type 1} (t : ℕ) → cycle.Lts-block.Closed (claims-6 (block-cs t)) (at block-rank t) (block-rank .post) M
 block-ok t =
-    knowing (block-cs t) _ (cycle.Lts-block.spec (claims-6 (asked block-cs t)) (at block-rank t) (block-rank .post) (λ c κs. tt) (λ c κs. omega arith)
-    (λ c κs. omega (arith, c .before .expect)) (λ c κs. tt) (λ c κs. tt) (λ c κs. (omega arith, ready-leaves (c .before .before .before .before
-    .before .before .lets .ensures .1 .0) (c .before .before .before .before .before .before .lets .kept .0) refl (ready-leaves (c .before .before
-    .before .before .before .before .before .before .expect .ensures .1 .0) refl refl (c .before .before .before .before .before .before .before
-    .before .expect .ensures .0 .0)))) (λ c. let till = c .before .before .before in let minus = till .before .before in let free-of2 = minus .before
-    in omega (arith, size-small _ (minus .minus .ensures .1) (free-of2 .free-of2 .ensures .1) (ready-part (till .till .ensures .0 .1) refl))) (λ c κs.
-    ready-leaves (c .before .before .before .till .ensures .1 .0) (c .before .before .before .till .kept .0) refl (ready-part (c .before .before
-    .before .till .ensures .0 .1) refl)) (λ c. search needs) (block-returns t))
+    knowing (block-cs t) _
+    (cycle.Lts-block.spec (claims-6 (asked block-cs t)) (at block-rank t) (block-rank .post) (λ c κs. tt) (λ c κs. omega arith)
+    (λ c κs. pair (omega arith) (past-symbol refl (c .before .expect .ensures))) (λ c κs. tt) (λ c κs. tt)
+    (λ c κs. pair (omega arith) (ready-leaves (c .before .before .before .before .before .before .lets .ensures .1 .0) (c .before .before .before
+    .before .before .before .lets .kept .0) refl (past-symbol refl (c .before .before .before .before .before .before .before .before .expect
+    .ensures)))) (λ c. let till = c .before .before .before in let minus = till .before .before in let free-of2 = minus .before in omega (
+      arith,
+      size-small _ (minus .minus .ensures .1) (free-of2 .free-of2 .ensures .1) (ready-part (till .till .ensures .0 .1) refl),
+    ))
+    (λ c κs. ready-leaves (c .before .before .before .till .ensures .1 .0) (c .before .before .before .till .kept .0) refl (ready-part (c .before
+    .before .before .till .ensures .0 .1) refl)) (λ c. search needs) (block-returns t))
 
 abbrev lets-cs : ℕ → List Callee
 lets-cs t = kind-here ∷ below local-rank t ∷ []
 
 abbrev lets-inv : cycle.Lts-lets.InvT-loop
 lets-inv s₀ n levels turns₀ a₀ s turns a =
-    SoFar (Before encodeLocals) (manyUpTo turns₀ T.noLocals (λ kind. eqb kind K.LET) (C.local (readers (within levels)))) (manyUpTo turns T.noLocals
-    (λ kind. eqb kind K.LET) (C.local (readers (within levels)))) s₀ s n a₀ a
+    SoFar (Before encodeLocals) (manyUpTo turns₀ T.noLocals (λ kind. eqb kind K.LET) (C.local (readers (within levels))))
+    (manyUpTo turns T.noLocals (λ kind. eqb kind K.LET) (C.local (readers (within levels)))) s₀ s n a₀ a
 
 abbrev lets-turns : cycle.Lts-lets.MeasureT-loop
 lets-turns s₀ n levels turns₀ a₀ s turns a = turns
 
-lets-loop-again : (t : ℕ) → cycle.Lts-lets.Need-loop-again (claims-2 (asked lets-cs t)) (at lets-rank t) (lets-rank .post) lets-inv lets-turns
+lets-loop-again : (t : ℕ) → cycle.Lts-lets.Need-loop-again (claims-2 (lets-cs t)) (at lets-rank t) (lets-rank .post) lets-inv lets-turns
 lets-loop-again t c =
     let after-local = c .before .before in let after-if1 = after-local .before .before in let after-kind-here = after-if1 .before in let in-loop =
-    after-kind-here .before .before .before in many-turns _ _ _ _ before-next (in-loop .loop .inv) (after-kind-here .kind-here .ensures .1) (eq-eqb _
-    _ (after-if1 .if1 .left)) (at-any (after-local .local .ensures .1)) (after-local .local .kept .0) (omega arith)
+    after-kind-here .before .before .before in many-turns _ _ _ _ before-next (in-loop .loop .inv) (after-kind-here .kind-here .ensures)
+    (eq-eqb _ _ (after-if1 .if1 .left)) (at-any (after-local .local .ensures)) (after-local .local .kept .0) (omega arith)
 
 pub lets-ok : {M : Type 1} (t : ℕ) → cycle.Lts-lets.Closed (claims-2 (lets-cs t)) (at lets-rank t) (lets-rank .post) M
 lets-ok t =
-    knowing (lets-cs t) _ (cycle.Lts-lets.spec (claims-2 (asked lets-cs t)) (at lets-rank t) (lets-rank .post) lets-inv lets-turns (λ c. so-begins (c
-    .before .pre .1) before-first) (λ c κs. omega (arith, c .before .before .loop, c .before .before .before .before .pre)) (λ c. search needs) (λ c.
-    many-ends _ _ _ _ before-last (wordless no-local-words) refl (c .before .before .before .before .loop .inv) (c .before .kind-here .ensures .1)
-    (ne-eqb _ _ (c .if1 .taken))) (λ c κs. omega (arith, c .before .before .kind-here)) (λ c. omega arith) (λ c. omega arith) (lets-loop-again t) (λ
-    c. search needs) (λ c. many-spent _ _ _ _ before-last (wordless no-local-words) refl (c .before .loop .inv) (omega arith)))
+    cycle.Lts-lets.spec (claims-2 (lets-cs t)) (at lets-rank t) (lets-rank .post) lets-inv lets-turns
+    (λ c. so-begins (c .before .pre .1) before-first)
+    (λ c κs. ready-leaves (c .before .before .loop .inv .room) (c .before .before .loop .inv .same) refl (c .before .before .before .before .pre .1))
+    (λ c. search needs) (λ c. many-ends _ _ _ _ before-last (wordless no-local-words) refl (c .before .before .before .before .loop .inv) (c .before
+    .kind-here .ensures) (ne-eqb _ _ (c .if1 .taken))) (λ c κs. pair (omega arith) (ready-leaves (c .before .before .before .before .before .loop .inv
+    .room) (c .before .before .before .before .before .loop .inv .same) refl (c .before .before .before .before .before .before .before .pre .1)))
+    (λ c. omega arith) (λ c. omega arith) (lets-loop-again t) (λ c. search needs)
+    (λ c. many-spent _ _ _ _ before-last (wordless no-local-words) refl (c .before .loop .inv) (omega arith))
 
 abbrev local-cs : ℕ → List Callee
 local-cs t = free-of ∷ expect ∷ begin-item ∷ a-name ∷ further-names ∷ minus ∷ below init-rank t ∷ optional ∷ set-size ∷ []
@@ -236,40 +277,50 @@ local-returns t c =
     after-minus .before in let after-free-of3 = after-free-of4 .before .before in let after-further-names = after-free-of3 .before .before .before
     .before in let after-a-name = after-further-names .before .before .before .before in let after-free-of2 = after-a-name .before .before in let
     after-begin-item = after-free-of2 .before .before .before .before in let after-expect = after-begin-item .before .before in let after-free-of =
-    after-expect .before .before in let start = after-free-of .before .before .before in pair (room-left (left (after-expect .expect .ensures .1 .0)
-    less (after-begin-item .begin-item .ensures .1 .0) plus (after-a-name .a-name .ensures .1 .0) plus (after-further-names .further-names .ensures .1
-    .0) plus (after-expect2 .expect2 .ensures .1 .0) less (after-init .init .ensures .1 .0) plus (after-optional .optional .ensures .1 .0) plus
-    (after-set-size .set-size .ensures .1 .0)) refl) (λ src l. (let l₁ = lies-still l (after-begin-item .begin-item .ensures .1 .0 .kept) in let l₂ =
-    lies-still l₁ (after-a-name .a-name .ensures .1 .0 .kept) in let l₃ = lies-still l₂ (after-further-names .further-names .ensures .1 .0 .kept) in
-    let l₄ = lies-still l₃ (after-init .init .ensures .1 .0 .kept) in local-read src _ _ (l .count) (after-free-of .free-of .ensures .1) (low-past
-    (start .pre .1) (after-expect .expect .ensures .1 .0)) (freed _ (after-free-of2 .free-of2 .ensures .1) (after-begin-item .begin-item .kept .0))
-    (omega ( arith, after-minus .minus .ensures .1, freed _ (after-free-of3 .free-of3 .ensures .1) (after-further-names .further-names .kept .0 ∙
-    after-a-name .a-name .kept .0 ∙ after-begin-item .begin-item .kept .0), freed _ (after-free-of4 .free-of4 .ensures .1) (after-further-names
-    .further-names .kept .0 ∙ after-a-name .a-name .kept .0 ∙ after-begin-item .begin-item .kept .0), )) (after-expect .expect .ensures .1 .1 src l)
-    (after-begin-item .begin-item .ensures .1 .1) (after-a-name .a-name .ensures .1 .1 src l₁) (after-further-names .further-names .ensures .1 .1 src
-    l₂) (after-expect2 .expect2 .ensures .1 .1 src l₃) (λ name names q e. after-init .init .ensures .1 .1 src l₃ .1 name names q (ap (λ (z : ℕ).
-    freeOf z (after-expect2 .expect2 .result)) (after-further-names .further-names .kept .0 ∙ after-a-name .a-name .kept .0 ∙ after-begin-item
-    .begin-item .kept .0) ∙ e)) (after-init .init .ensures .1 .1 src l₃ .0) (after-optional .optional .ensures .1 .1 src l₄) (after-set-size .set-size
-    .ensures .1 .1)))
+    after-expect .before .before in let start = after-free-of .before .before .before in pair
+    (room-left (left (after-expect .expect .ensures .1 .0) less (after-begin-item .begin-item .ensures .1 .0) plus (after-a-name .a-name .ensures .1
+    .0) plus (after-further-names .further-names .ensures .1 .0) plus (after-expect2 .expect2 .ensures .1 .0) less (after-init .init .ensures .1 .0)
+    plus (after-optional .optional .ensures .1 .0) plus (after-set-size .set-size .ensures .1 .0)) refl)
+    (λ src l. (let l₁ = lies-still l (after-begin-item .begin-item .ensures .1 .0 .kept) in let l₂ = lies-still l₁ (after-a-name .a-name .ensures .1
+    .0 .kept) in let l₃ = lies-still l₂ (after-further-names .further-names .ensures .1 .0 .kept) in let l₄ = lies-still l₃ (after-init .init .ensures
+    .1 .0 .kept) in local-read src _ _ (l .count) (after-free-of .free-of .ensures .1) (low-past (start .pre .1) (after-expect .expect .ensures .1
+    .0)) (freed _ (after-free-of2 .free-of2 .ensures .1) (after-begin-item .begin-item .kept .0)) (omega (
+      arith,
+      after-minus .minus .ensures .1,
+      freed _ (after-free-of3 .free-of3 .ensures .1) (after-further-names .further-names .kept .0 ∙ after-a-name .a-name .kept .0 ∙ after-begin-item
+          .begin-item .kept .0),
+      freed _ (after-free-of4 .free-of4 .ensures .1) (after-further-names .further-names .kept .0 ∙ after-a-name .a-name .kept .0
+          ∙ after-begin-item .begin-item .kept .0),
+    )) (after-expect .expect .ensures .1 .1 src l) (after-begin-item .begin-item .ensures .1 .1)
+    (after-a-name .a-name .ensures .1 .1 src l₁) (after-further-names .further-names .ensures .1 .1 src l₂) (after-expect2 .expect2 .ensures .1 .1 src
+    l₃) (λ name names q e. after-init .init .ensures .1 .1 src l₃ .1 name names q (ap (λ (z : ℕ). freeOf z (after-expect2 .expect2 .result))
+    (after-further-names .further-names .kept .0 ∙ after-a-name .a-name .kept .0 ∙ after-begin-item .begin-item .kept .0) ∙ e)) (after-init .init
+    .ensures .1 .1 src l₃ .0) (after-optional .optional .ensures .1 .1 src l₄) (after-set-size .set-size .ensures .1 .1)))
 
 pub local-ok : {M : Type 1} (t : ℕ) → cycle.Lts-local.Closed (claims-9 (local-cs t)) (at local-rank t) (local-rank .post) M
 local-ok t =
-    knowing (local-cs t) _ (cycle.Lts-local.spec (claims-9 (asked local-cs t)) (at local-rank t) (local-rank .post) (λ c κs. tt) (λ c κs. omega arith)
-    (λ c κs. ready-leaves (c .before .expect .ensures .1 .0) refl refl (c .before .expect .ensures .0 .0)) (λ c κs. tt) (λ c κs. ready-takes (c
-    .before .before .before .before .before .begin-item .ensures .1 .0) (c .before .before .before .before .before .begin-item .kept .0) (c .before
-    .before .before .before .before .begin-item .ensures .0)) (λ c κs. omega (arith, c .before .before .before .a-name)) (λ c κs. tt) (λ c κs. tt) (λ
-    c κs. tt) (λ c κs. omega (arith, c .before .before .before .before .before .before .before .before .further-names)) (λ c κs. (omega (arith, c
+    knowing (local-cs t) _
+    (cycle.Lts-local.spec (claims-9 (asked local-cs t)) (at local-rank t) (local-rank .post) (λ c κs. tt) (λ c κs. omega arith)
+    (λ c κs. past-symbol refl (c .before .expect .ensures)) (λ c κs. tt)
+    (λ c κs. ready-takes (c .before .before .before .before .before .begin-item .ensures .1 .0) (c .before .before .before .before .before .begin-item
+    .kept .0) (c .before .before .before .before .before .begin-item .ensures .0))
+    (λ c κs. let e = c .before .before .before .a-name in ready-leaves (e .ensures .1 .0) (e .kept .0) refl (e .ensures .0)) (λ c κs. tt) (λ c κs. tt)
+    (λ c κs. tt) (λ c κs. let e = c .before .before .before .before .before .before .before .before .further-names in pair (ready-leaves (e .ensures
+    .1 .0) (e .kept .0) refl (e .ensures .0)) (omega arith)) (λ c κs. pair (omega (
+      arith,
+      c .before .before .before .before .before .before .before
+          .before .before .before .before .before .before .before .before .before .before .before .before .before .before .before .before .before .before
+          .before .before .pre .0,
+    )) (past-symbol refl (c .before .expect2 .ensures)))
+    (λ c κs. pair (ready-takes (c .before .before .before .init .ensures .1 .0) (c .before .before .before .init .kept .0) (c .before .before .before
+    .init .ensures .0 .1)) (omega arith)) (λ c κs. let optional = c .before in let expect = optional .before .before .before .before .before .before
     .before .before .before .before .before .before .before .before .before .before .before .before .before .before .before .before .before .before
-    .before .before .before .before .before .before .before .before .before .pre .0), ready-leaves (c .before .expect2 .ensures .1 .0) refl refl (c
-    .before .expect2 .ensures .0 .0))) (λ c κs. (ready-takes (c .before .before .before .init .ensures .1 .0) (c .before .before .before .init .kept
-    .0) (c .before .before .before .init .ensures .0 .1), omega arith)) (λ c κs. let optional = c .before in let expect = optional .before .before
-    .before .before .before .before .before .before .before .before .before .before .before .before .before .before .before .before .before .before
-    .before .before .before .before .before .before .before in let free-of = expect .before .before in (omega (arith, optional .optional), item-low
-    (free-of .free-of .ensures .1) (expect .expect .ensures .0 .0))) (λ c. let set-size = c .before .before in let init = set-size .before .before
-    .before .before .before .before in let further-names = init .before .before .before .before .before .before .before .before .before .before
-    .before in let a-name = further-names .before .before .before .before in let begin-item = a-name .before .before .before .before .before .before
-    in omega (arith, set-size .set-size .kept, init .init .kept, further-names .further-names .kept, a-name .a-name .kept, begin-item .begin-item
-    .kept)) (local-returns t))
+    .before .before .before in let free-of = expect .before .before in pair (ready-leaves (optional .optional .ensures .1 .0) refl refl (optional
+    .optional .ensures .0 .0)) (item-low (free-of .free-of .ensures .1) (expect .expect .ensures .0 .0)))
+    (λ c. let set-size = c .before .before in let init = set-size .before .before .before .before .before .before in let further-names = init .before
+    .before .before .before .before .before .before .before .before .before .before in let a-name = further-names .before .before .before .before in
+    let begin-item = a-name .before .before .before .before .before .before in set-size .set-size .kept .0 ∙ init .init .kept .0 ∙ further-names
+    .further-names .kept .0 ∙ a-name .a-name .kept .0 ∙ begin-item .begin-item .kept .0) (local-returns t))
 
 abbrev init-cs : ℕ → List Callee
 init-cs t = kind-here ∷ is-vector ∷ vector ∷ free-of ∷ minus ∷ below arg-rank t ∷ below rest-rank t ∷ node ∷ []
@@ -277,19 +328,20 @@ init-cs t = kind-here ∷ is-vector ∷ vector ∷ free-of ∷ minus ∷ below a
 init-returns : (t : ℕ) → cycle.Lts-init.Need-returns (claims-8 (asked init-cs t)) (at init-rank t) (init-rank .post)
 init-returns t c =
     let after-vector = c .before .before in let after-if1 = after-vector .before .before in let after-is-vector = after-if1 .before in let
-    after-kind-here = after-is-vector .before in let start = after-kind-here .before .before .before in let v = vector-is (after-kind-here .kind-here
-    .result) (start .args .further) (sym (after-is-vector .is-vector .ensures .1) ∙ after-if1 .if1 .taken) in pair (takes-none (after-vector .vector
-    .ensures .1 .0)) (λ src l. pair (after-vector .vector .ensures .1 .1 src l .0) (λ name names q e. given-vector src _ (after-kind-here .kind-here
-    .ensures .1 src l) name names (omega (arith, q, v .1)) (v .0) (after-vector .vector .ensures .1 .1 src l .1 name (e ∙ ap (λ (z : ℕ). start .args
-    .start + z) (one-name name names (omega (arith, q, v .1)))))))
+    after-kind-here = after-is-vector .before in let start = after-kind-here .before .before .before in let v = vector-is
+    (after-kind-here .kind-here .result) (start .args .further) (sym (after-is-vector .is-vector .ensures .1) ∙ after-if1 .if1 .taken) in pair
+    (takes-none (after-vector .vector .ensures .1 .0)) (λ src l. pair (after-vector .vector .ensures .1 .1 src l .0) (λ name names q e. given-vector
+    src _ (after-kind-here .kind-here .ensures .1 src l) name names (omega (arith, q, v .1)) (v .0) (after-vector .vector .ensures .1 .1 src l .1 name
+    (e ∙ ap (λ (z : ℕ). start .args .start + z) (one-name name names (omega (arith, q, v .1)))))))
 
 init-returns-2 : (t : ℕ) → cycle.Lts-init.Need-returns-2 (claims-8 (asked init-cs t)) (at init-rank t) (init-rank .post)
 init-returns-2 t c =
     let after-node = c .before .before in let after-rest = after-node .before .before .before .before in let after-arg = after-rest .before .before
     .before .before in let after-minus = after-arg .before .before in let after-free-of = after-minus .before in let after-if1 = after-free-of .before
     .before in let after-is-vector = after-if1 .before in let after-kind-here = after-is-vector .before in let start = after-kind-here .before .before
-    .before in pair (room-taken (taken (after-arg .arg .ensures .1 .0) plus (after-rest .rest .ensures .1 .0) less (after-node .node .ensures .1 .0))
-    refl) (λ src l. let l₁ = lies-still l (after-arg .arg .ensures .1 .0 .kept) in pair (goes-on (after-arg .arg .ensures .1 .1 src l) then goes-on
+    .before in pair
+    (room-taken (taken (after-arg .arg .ensures .1 .0) plus (after-rest .rest .ensures .1 .0) less (after-node .node .ensures .1 .0)) refl)
+    (λ src l. let l₁ = lies-still l (after-arg .arg .ensures .1 .0 .kept) in pair (goes-on (after-arg .arg .ensures .1 .1 src l) then goes-on
     (after-rest .rest .ensures .1 .1 src l₁) then adds-on (after-node .node .ensures .1 .1)) (λ name names q e. given-values src _ (after-kind-here
     .kind-here .ensures .1 src l) name names (λ z. vector-not (after-kind-here .kind-here .result) (start .args .further) (sym (after-is-vector
     .is-vector .ensures .1) ∙ after-if1 .if1 .left) (omega (arith, q, z))) (values-read src _ _ name names _ q e (measured _ _ (after-minus .minus
@@ -298,11 +350,15 @@ init-returns-2 t c =
 
 pub init-ok : {M : Type 1} (t : ℕ) → cycle.Lts-init.Closed (claims-8 (init-cs t)) (at init-rank t) (init-rank .post) M
 init-ok t =
-    knowing (init-cs t) _ (cycle.Lts-init.spec (claims-8 (asked init-cs t)) (at init-rank t) (init-rank .post) (λ c κs. omega arith) (λ c κs. tt) (λ c
-    κs. omega arith) (λ c. search needs) (init-returns t) (λ c κs. tt) (λ c κs. tt) (λ c κs. omega arith) (λ c κs. (omega arith, ready-takes (c
-    .before .before .before .arg .ensures .1 .0) (c .before .before .before .arg .kept .0) (ready-part (c .before .before .before .arg .ensures .0 .1)
-    refl))) (λ c. let arg = c .before .before .before .before .before .before .before in let minus = arg .before .before in let free-of = minus
-    .before in omega (arith, size-small _ (minus .minus .ensures .1) (free-of .free-of .ensures .1) (ready-part (arg .arg .ensures .0 .1) refl))) (λ c
-    κs. let rest = c .before .before .before in let arg = rest .before .before .before .before in let start = arg .before .before .before .before
-    .before .before .before .before .before .before in ready-leaves (rest .rest .ensures .1 .0) (rest .rest .kept .0) refl (ready-takes (arg .arg
-    .ensures .1 .0) (arg .arg .kept .0) (start .pre .1))) (λ c. search needs) (init-returns-2 t))
+    knowing (init-cs t) _
+    (cycle.Lts-init.spec (claims-8 (asked init-cs t)) (at init-rank t) (init-rank .post) (λ c κs. omega arith) (λ c κs. tt) (λ c κs. omega arith)
+    (λ c. search needs) (init-returns t) (λ c κs. tt) (λ c κs. tt) (λ c κs. omega arith)
+    (λ c κs. pair (omega arith) (ready-takes (c .before .before .before .arg .ensures .1 .0) (c .before .before .before .arg .kept .0) (ready-part (c
+    .before .before .before .arg .ensures .0 .1) refl))) (λ c. let arg = c .before .before .before .before .before .before .before in let minus = arg
+    .before .before in let free-of = minus .before in omega (
+      arith,
+      size-small _ (minus .minus .ensures .1) (free-of .free-of .ensures .1) (ready-part
+          (arg .arg .ensures .0 .1) refl),
+    )) (λ c κs. let rest = c .before .before .before in let arg = rest .before .before .before .before in let start =
+    arg .before .before .before .before .before .before .before .before .before .before in ready-leaves (rest .rest .ensures .1 .0) (rest .rest .kept
+    .0) refl (ready-takes (arg .arg .ensures .1 .0) (arg .arg .kept .0) (start .pre .1))) (λ c. search needs) (init-returns-2 t))

@@ -1,4 +1,4 @@
--- Expressions by their operators. 
+-- Expressions by their operators.
 use Rattle.tree.proofs.phrases.+also+arg+bare+block+body+call+cases+cmd+expr+form+forms+give+index+init+item+key+lets+list+local+monad+nest+op+pass+pick+plain+redo+rest+run+set+step+tail+tails+term+test+till+unit+valof+when+whole as cycle
 use Rattle.language.specs.Tree as T
 use Rattle.language.specs.Expressions as E
@@ -13,8 +13,8 @@ use Rattle.tree.proofs.Helpers.{low-past}
 use Rattle.tree.proofs.Lists.{Before}
 use Rattle.tree.proofs.Loops.{SoFar, before-first, before-next, before-last, wordless, so-begins, many-turns, many-ends, many-spent}
 use Rattle.tree.proofs.Readers.{monadic-read, operation-read}
-use Rattle.tree.proofs.Rooms.{left, room-left, ready-leaves, ready-takes, _plus_, _less_, item-low, size-small, measured}
-use Rattle.tree.proofs.Steps.{pair}
+use Rattle.tree.proofs.Rooms.{past-symbol, past-expression, left, room-left, ready-leaves, ready-takes, _plus_, _less_, item-low, size-small, measured}
+use Rattle.tree.proofs.Steps.{pair, triple}
 use Rattle.tree.proofs.Symbols.{lies-still}
 use Rattle.tree.specs.Encoding.{encodeOperations}
 use Rattle.tree.proofs.Asked.{Callee, knowing}
@@ -55,34 +55,44 @@ expr-returns-5 t c =
     after-binding-of = after-if4 .before in let after-kind-here2 = after-binding-of .before in let after-expr2 = after-kind-here2 .before .before
     .before .before in let after-free-of = after-expr2 .before .before in let after-if2 = after-free-of .before .before in let after-if1 = after-if2
     .before in let start = after-if1 .before .before in pair (room-left (left (after-expr2 .expr2 .ensures .1 .0) plus (after-op .op .ensures .1 .0)
-    plus (after-run .run .ensures .1 .0) less (after-node .node .ensures .1 .0)) refl) (λ src l. (let l₁ = lies-still l (after-expr2 .expr2 .ensures
-    .1 .0 .kept) in let l₂ = lies-still l₁ (after-op .op .ensures .1 .0 .kept) in expression-more l₁ _ _ _ (after-if1 .if1 .left) (after-if2 .if2
-    .left) (start .pre .1 .1) (after-kind-here2 .kind-here2 .ensures .1 src l₁) (after-expr2 .expr2 .ensures .1 .1 src l) (after-right-of .right-of
-    .ensures .1 .0) (sym (after-binding-of .binding-of .ensures .1) ∙ after-if4 .if4 .left) (after-free-of .free-of .ensures .1) (measured _ _
-    (after-minus .minus .ensures .1) (after-free-of2 .free-of2 .ensures .1) (after-expr2 .expr2 .kept .0)) (after-place-of .place-of .ensures .1)
-    (after-op .op .ensures .1 .1 src l₁ (after-kind-here2 .kind-here2 .ensures .1 src l₁)) (after-run .run .ensures .1 .1 src l₂) (after-node .node
-    .ensures .1 .1)))
+    plus (after-run .run .ensures .1 .0) less (after-node .node .ensures .1 .0)) refl)
+    (λ src l. (let l₁ = lies-still l (after-expr2 .expr2 .ensures .1 .0 .kept) in let l₂ = lies-still l₁ (after-op .op .ensures .1 .0 .kept) in
+    expression-more l₁ _ _ _ (after-if1 .if1 .left) (after-if2 .if2 .left) (start .pre .1 .1) (after-kind-here2 .kind-here2 .ensures .1 src l₁)
+    (after-expr2 .expr2 .ensures .1 .1 src l) (after-right-of .right-of .ensures .1 .0) (sym (after-binding-of .binding-of .ensures .1) ∙ after-if4
+    .if4 .left) (after-free-of .free-of .ensures .1) (measured _ _ (after-minus .minus .ensures .1) (after-free-of2 .free-of2 .ensures .1)
+    (after-expr2 .expr2 .kept .0)) (after-place-of .place-of .ensures .1) (after-op .op .ensures .1 .1 src l₁ (after-kind-here2 .kind-here2 .ensures
+    .1 src l₁)) (after-run .run .ensures .1 .1 src l₂) (after-node .node .ensures .1 .1)))
 
 pub expr-ok : {M : Type 1} (t : ℕ) → cycle.Lts-expr.Closed (claims-12 (expr-cs t)) (at expr-rank t) (expr-rank .post) M
 expr-ok t =
-    knowing (expr-cs t) _ (cycle.Lts-expr.spec (claims-12 (asked expr-cs t)) (at expr-rank t) (expr-rank .post) (λ c κs. omega arith) (λ c. search
-    needs) (λ c. expression-none _ _ (c .before .before .before .before .if1 .taken) (c .before .before .term .ensures .1)) (λ c κs. omega arith) (λ c
-    κs. (omega arith, (c .before .before .before .before .before .before .before .pre .1 .0, omega arith))) (λ c. search needs) (expr-returns-2 t) (λ
-    c. omega arith) (λ c κs. omega arith) (λ c. search needs) (expr-returns-3 t) (λ c κs. tt) (λ c. omega arith) (λ c κs. omega arith) (λ c κs. omega
-    (arith, c .before .before .before .expr2)) (λ c κs. tt) (λ c. search needs) (expr-returns-4 t) (λ c κs. tt) (λ c κs. tt) (λ c κs. omega (arith, c
-    .before .before .before .before .before .before .kind-here2)) (λ c κs. omega arith) (λ c κs. let place-of = c .before .before in let if4 =
-    place-of .before .before .before .before .before in let binding-of = if4 .before in let if1 = binding-of .before .before .before .before .before
-    .before .before .before .before .before in (omega arith, (place-of .place-of .ensures .0, omega arith, binding-positive _ (omega (arith,
-    binding-of .binding-of .ensures .1, if4 .if4 .left, if1 .if1 .left))))) (λ c κs. (omega (arith, c .before .before .before .before .before .before
-    .before .before .before .before .before .before .before .before .before .before .before .before .before .before .before .before .before .before
-    .pre .0), (omega (arith, c .before .before .before .op), omega arith, omega arith))) (λ c. let place-of = c .before .before .before .before
-    .before .before .before .before .before .before in let minus = place-of .before .before in let free-of2 = minus .before in omega (arith,
-    size-small _ (minus .minus .ensures .1) (free-of2 .free-of2 .ensures .1) (place-of .place-of .ensures .0))) (λ c κs. ready-leaves (c .before
-    .before .before .run .ensures .1 .0) (c .before .before .before .run .kept .0) refl (ready-leaves (c .before .before .before .before .before
-    .before .before .op .ensures .1 .0) (c .before .before .before .before .before .before .before .op .kept .0) refl (c .before .before .before
-    .before .before .before .before .op .ensures .0 .1 .0))) (λ c. let node = c .before .before in let run = node .before .before .before .before in
-    let op = run .before .before .before .before in let expr2 = op .before .before .before .before .before .before .before .before .before .before
-    .before .before .before .before in omega (arith, node .node .kept, run .run .kept, op .op .kept, expr2 .expr2 .kept)) (expr-returns-5 t))
+    knowing (expr-cs t) _
+    (cycle.Lts-expr.spec (claims-12 (asked expr-cs t)) (at expr-rank t) (expr-rank .post) (λ c κs. omega arith) (λ c. search needs)
+    (λ c. expression-none _ _ (c .before .before .before .before .if1 .taken) (c .before .before .term .ensures .1)) (λ c κs. omega arith)
+    (λ c κs. (omega arith, (c .before .before .before .before .before .before .before .pre .1 .0, omega arith))) (λ c. search needs)
+    (expr-returns-2 t) (λ c. omega arith) (λ c κs. omega arith) (λ c. search needs) (expr-returns-3 t) (λ c κs. tt) (λ c. omega arith)
+    (λ c κs. omega arith) (λ c κs. let e = c .before .before .before .expr2 in past-expression refl (e .ensures) (e .kept .0)) (λ c κs. tt)
+    (λ c. search needs) (expr-returns-4 t) (λ c κs. tt) (λ c κs. tt)
+    (λ c κs. c .before .before .before .before .before .before .kind-here2 .ensures .0) (λ c κs. omega arith)
+    (λ c κs. let place-of = c .before .before in let if4 = place-of .before .before .before .before .before in let binding-of = if4 .before in let if1
+    = binding-of .before .before .before .before .before .before .before .before .before .before in pair (omega arith) (triple (place-of .place-of
+    .ensures .0) (omega arith) (binding-positive _ (omega (arith, binding-of .binding-of .ensures .1, if4 .if4 .left, if1 .if1 .left)))))
+    (λ c κs. pair (omega (
+      arith,
+      c .before .before .before .before .before .before .before .before .before .before .before .before .before .before
+          .before .before .before .before .before .before .before .before .before .before .pre .0,
+    )) (triple (ready-leaves (c .before .before .before .op
+    .ensures .1 .0) (c .before .before .before .op .kept .0) refl (c .before .before .before .op .ensures .0 .1 .0)) (omega arith) (omega arith)))
+    (λ c. let place-of = c .before .before .before .before .before .before .before .before .before .before in let minus = place-of .before .before in
+    let free-of2 = minus .before in omega (
+      arith,
+      size-small _ (minus .minus .ensures .1) (free-of2 .free-of2 .ensures .1) (place-of .place-of
+          .ensures .0),
+    )) (λ c κs. ready-leaves (c .before .before .before .run .ensures .1 .0) (c .before .before .before .run .kept .0) refl (ready-leaves
+    (c .before .before .before .before .before .before .before .op .ensures .1 .0) (c .before .before .before .before .before .before .before .op
+    .kept .0) refl (c .before .before .before .before .before .before .before .op .ensures .0 .1 .0)))
+    (λ c. let node = c .before .before in let run = node .before .before .before .before in let op = run .before .before .before .before in let expr2
+    = op .before .before .before .before .before .before .before .before .before .before .before .before .before .before in node .node .kept .0 ∙ run
+    .run .kept .0 ∙ op .op .kept .0 ∙ expr2 .expr2 .kept .0) (expr-returns-5 t))
 
 abbrev op-cs : ℕ → List Callee
 op-cs t = free-of ∷ expect ∷ begin-item ∷ below expr-rank t ∷ set-size ∷ []
@@ -92,27 +102,29 @@ op-returns t c =
     let after-set-size = c .before .before in let after-expr = after-set-size .before .before .before .before in let after-begin-item = after-expr
     .before .before .before .before in let after-expect = after-begin-item .before .before in let after-free-of = after-expect .before .before in let
     start = after-free-of .before .before .before in pair (room-left (left (after-expect .expect .ensures .1 .0) less (after-begin-item .begin-item
-    .ensures .1 .0) plus (after-expr .expr .ensures .1 .0) plus (after-set-size .set-size .ensures .1 .0)) refl) (λ src l k. operation-read src _ _
-    (after-free-of .free-of .ensures .1) _ (low-past (start .pre .1 .0) (after-expect .expect .ensures .1 .0)) k (after-expect .expect .ensures .1 .1
-    src l) (after-begin-item .begin-item .ensures .1 .1) (after-expr .expr .ensures .1 .1 src (lies-still l (after-begin-item .begin-item .ensures .1
-    .0 .kept))) (after-set-size .set-size .ensures .1 .1))
+    .ensures .1 .0) plus (after-expr .expr .ensures .1 .0) plus (after-set-size .set-size .ensures .1 .0)) refl)
+    (λ src l k. operation-read src _ _ (after-free-of .free-of .ensures .1) _ (low-past (start .pre .1 .0) (after-expect .expect .ensures .1 .0)) k
+    (after-expect .expect .ensures .1 .1 src l) (after-begin-item .begin-item .ensures .1 .1) (after-expr .expr .ensures .1 .1 src (lies-still l
+    (after-begin-item .begin-item .ensures .1 .0 .kept))) (after-set-size .set-size .ensures .1 .1))
 
 pub op-ok : {M : Type 1} (t : ℕ) → cycle.Lts-op.Closed (claims-5 (op-cs t)) (at op-rank t) (op-rank .post) M
 op-ok t =
-    knowing (op-cs t) _ (cycle.Lts-op.spec (claims-5 (asked op-cs t)) (at op-rank t) (op-rank .post) (λ c κs. tt) (λ c κs. omega arith) (λ c κs.
-    ready-leaves (c .before .expect .ensures .1 .0) refl refl (c .before .expect .ensures .0 .0)) (λ c κs. (omega arith, (ready-takes (c .before
-    .before .before .begin-item .ensures .1 .0) (c .before .before .before .begin-item .kept .0) (c .before .before .before .begin-item .ensures .0),
-    omega arith))) (λ c κs. let expr = c .before .before .before in let expect = expr .before .before .before .before .before .before in let free-of =
-    expect .before .before in (omega (arith, expr .expr), item-low (free-of .free-of .ensures .1) (expect .expect .ensures .0 .0))) (λ c. search
-    needs) (op-returns t))
+    knowing (op-cs t) _
+    (cycle.Lts-op.spec (claims-5 (asked op-cs t)) (at op-rank t) (op-rank .post) (λ c κs. tt) (λ c κs. omega arith)
+    (λ c κs. past-symbol refl (c .before .expect .ensures)) (λ c κs. pair (omega arith) (pair (ready-takes (c .before .before .before .begin-item
+    .ensures .1 .0) (c .before .before .before .begin-item .kept .0) (c .before .before .before .begin-item .ensures .0)) (omega arith)))
+    (λ c κs. let expr = c .before .before .before in let expect = expr .before .before .before .before .before .before in let free-of = expect .before
+    .before in pair (past-expression refl (expr .expr .ensures) (expr .expr .kept .0)) (item-low (free-of .free-of .ensures .1) (expect .expect
+    .ensures .0 .0))) (λ c. search needs) (op-returns t))
 
 abbrev run-cs : ℕ → List Callee
 run-cs t = further-most ∷ kind-here ∷ binding-of ∷ below op-rank t ∷ []
 
 abbrev run-inv : cycle.Lts-run.InvT-loop
 run-inv s₀ n levels binding right turns₀ a₀ s turns a =
-    SoFar (Before encodeOperations) (manyUpTo turns₀ T.noOperations (λ kind. eqb (bindingOf kind) binding) (E.operation (E.expression (within levels)
-    right))) (manyUpTo turns T.noOperations (λ kind. eqb (bindingOf kind) binding) (E.operation (E.expression (within levels) right))) s₀ s n a₀ a
+    SoFar (Before encodeOperations)
+    (manyUpTo turns₀ T.noOperations (λ kind. eqb (bindingOf kind) binding) (E.operation (E.expression (within levels) right)))
+    (manyUpTo turns T.noOperations (λ kind. eqb (bindingOf kind) binding) (E.operation (E.expression (within levels) right))) s₀ s n a₀ a
 
 abbrev run-turns : cycle.Lts-run.MeasureT-loop
 run-turns s₀ n levels binding right turns₀ a₀ s turns a = turns
@@ -127,40 +139,47 @@ run-loop-again : (t : ℕ) → cycle.Lts-run.Need-loop-again (claims-4 (asked ru
 run-loop-again t c =
     let after-op = c .before .before in let after-if1 = after-op .before .before in let after-binding-of = after-if1 .before in let after-kind-here =
     after-binding-of .before in let in-loop = after-kind-here .before .before .before in many-turns _ _ _ _ before-next (in-loop .loop .inv)
-    (after-kind-here .kind-here .ensures .1) (eq-eqb _ _ (sym (after-binding-of .binding-of .ensures .1) ∙ after-if1 .if1 .left)) (after-op .op
-    .ensures .1) (after-op .op .kept .0) (omega arith)
+    (after-kind-here .kind-here .ensures .1) (eq-eqb _ _ (sym (after-binding-of .binding-of .ensures .1) ∙ after-if1 .if1 .left))
+    (after-op .op .ensures .1) (after-op .op .kept .0) (omega arith)
 
 pub run-ok : {M : Type 1} (t : ℕ) → cycle.Lts-run.Closed (claims-4 (run-cs t)) (at run-rank t) (run-rank .post) M
 run-ok t =
-    knowing (run-cs t) _ (cycle.Lts-run.spec (claims-4 (asked run-cs t)) (at run-rank t) (run-rank .post) run-inv run-turns (λ c κs. tt) (λ c.
-    so-begins (c .before .before .pre .1 .0) before-first) (λ c κs. omega (arith, c .before .before .loop, c .before .before .before .before .before
-    .pre)) (λ c κs. tt) (λ c. search needs) (run-returns t) (λ c κs. let if1 = c .before in let binding-of = if1 .before in let kind-here = binding-of
-    .before in let start = kind-here .before .before .before .before .before .before in (omega arith, (kind-here .kind-here .ensures .0, omega arith,
-    binding-positive _ (omega (arith, binding-of .binding-of .ensures .1, if1 .if1 .left, start .pre .1))))) (λ c. omega arith) (λ c. omega arith)
-    (run-loop-again t) (λ c. search needs) (λ c. many-spent _ _ _ _ before-last (wordless no-operation-words) (c .before .before .further-most
-    .ensures .1) (c .before .loop .inv) (omega arith)))
+    knowing (run-cs t) _
+    (cycle.Lts-run.spec (claims-4 (asked run-cs t)) (at run-rank t) (run-rank .post) run-inv run-turns (λ c κs. tt)
+    (λ c. so-begins (c .before .before .pre .1 .0) before-first)
+    (λ c κs. ready-leaves (c .before .before .loop .inv .room) (c .before .before .loop .inv .same) refl (c .before .before .before .before .before
+    .pre .1 .0)) (λ c κs. tt) (λ c. search needs) (run-returns t)
+    (λ c κs. let if1 = c .before in let binding-of = if1 .before in let kind-here = binding-of .before in let start = kind-here .before .before
+    .before .before .before .before in pair (omega arith) (triple (kind-here .kind-here .ensures .0) (omega arith) (binding-positive _ (omega (
+      arith,
+      binding-of .binding-of .ensures .1,
+      if1 .if1 .left,
+      start .pre .1,
+    ))))) (λ c. omega arith) (λ c. omega arith) (run-loop-again t)
+    (λ c. search needs) (λ c. many-spent _ _ _ _ before-last (wordless no-operation-words) (c .before .before .further-most .ensures .1) (c .before
+    .loop .inv) (omega arith)))
 
 abbrev term-cs : ℕ → List Callee
 term-cs t = kind-here ∷ is-monadic ∷ below monad-rank t ∷ below whole-rank t ∷ []
 
-term-returns : (t : ℕ) → cycle.Lts-term.Need-returns (claims-4 (asked term-cs t)) (at term-rank t) (term-rank .post)
+term-returns : (t : ℕ) → cycle.Lts-term.Need-returns (claims-4 (term-cs t)) (at term-rank t) (term-rank .post)
 term-returns t c =
     let after-monad = c .before .before in let after-if1 = after-monad .before .before in let after-is-monadic = after-if1 .before in let
-    after-kind-here = after-is-monadic .before in operand-monadic _ (after-kind-here .kind-here .ensures .1) (after-is-monadic .is-monadic .ensures
-    .1) (after-if1 .if1 .taken) (after-monad .monad .ensures .1)
+    after-kind-here = after-is-monadic .before in operand-monadic _ (after-kind-here .kind-here .ensures) (after-is-monadic .is-monadic .ensures)
+    (after-if1 .if1 .taken) (after-monad .monad .ensures)
 
-term-returns-2 : (t : ℕ) → cycle.Lts-term.Need-returns-2 (claims-4 (asked term-cs t)) (at term-rank t) (term-rank .post)
+term-returns-2 : (t : ℕ) → cycle.Lts-term.Need-returns-2 (claims-4 (term-cs t)) (at term-rank t) (term-rank .post)
 term-returns-2 t c =
     let after-whole = c .before .before in let after-if1 = after-whole .before .before in let after-is-monadic = after-if1 .before in let
-    after-kind-here = after-is-monadic .before in operand-suffixed _ (after-kind-here .kind-here .ensures .1) (after-is-monadic .is-monadic .ensures
-    .1) (after-if1 .if1 .left) (after-whole .whole .ensures .1)
+    after-kind-here = after-is-monadic .before in operand-suffixed _ (after-kind-here .kind-here .ensures) (after-is-monadic .is-monadic .ensures)
+    (after-if1 .if1 .left) (after-whole .whole .ensures)
 
 pub term-ok : {M : Type 1} (t : ℕ) → cycle.Lts-term.Closed (claims-4 (term-cs t)) (at term-rank t) (term-rank .post) M
 term-ok t =
-    knowing (term-cs t) _ (cycle.Lts-term.spec (claims-4 (asked term-cs t)) (at term-rank t) (term-rank .post) (λ c κs. omega arith) (λ c κs. tt) (λ c
-    κs. let if1 = c .before in let is-monadic = if1 .before in let start = is-monadic .before .before .before .before in (omega arith, (start .pre .1,
-    monadic-positive _ (is-monadic .is-monadic .ensures .1) (if1 .if1 .taken)))) (λ c κs. omega arith) (λ c. search needs) (term-returns t) (λ c.
-    search needs) (term-returns-2 t))
+    cycle.Lts-term.spec (claims-4 (term-cs t)) (at term-rank t) (term-rank .post) (λ c κs. omega arith) (λ c κs. tt)
+    (λ c κs. let if1 = c .before in let is-monadic = if1 .before in let start = is-monadic .before .before .before .before in pair (omega arith) (pair
+    (start .pre .1) (monadic-positive _ (is-monadic .is-monadic .ensures) (if1 .if1 .taken)))) (λ c κs. omega arith) (λ c. search needs)
+    (term-returns t) (λ c. search needs) (term-returns-2 t)
 
 abbrev monad-cs : ℕ → List Callee
 monad-cs t = refuse ∷ free-of ∷ place-here ∷ expect ∷ reach-of ∷ below expr-rank t ∷ node ∷ []
@@ -169,15 +188,17 @@ monad-returns-2 : (t : ℕ) → cycle.Lts-monad.Need-returns-2 (claims-7 (asked 
 monad-returns-2 t c =
     let after-node = c .before .before in let after-expr = after-node .before .before .before .before in let after-reach-of = after-expr .before in
     let after-expect = after-reach-of .before .before in let after-place-here = after-expect .before .before in let after-free-of = after-place-here
-    .before .before in let after-if1 = after-free-of .before .before in let start = after-if1 .before .before in pair (room-left (left (after-expect
-    .expect .ensures .1 .0) plus (after-expr .expr .ensures .1 .0) less (after-node .node .ensures .1 .0)) refl) (λ src l k. monadic-read l _ _
-    (after-free-of .free-of .ensures .1) (after-place-here .place-here .ensures .1 src l) (after-if1 .if1 .left) k (start .pre .1 .1) (after-reach-of
-    .reach-of .ensures .1 .0) (after-expect .expect .ensures .1 .1 src l) (after-expr .expr .ensures .1 .1 src l) (after-node .node .ensures .1 .1))
+    .before .before in let after-if1 = after-free-of .before .before in let start = after-if1 .before .before in pair
+    (room-left (left (after-expect .expect .ensures .1 .0) plus (after-expr .expr .ensures .1 .0) less (after-node .node .ensures .1 .0)) refl)
+    (λ src l k. monadic-read l _ _ (after-free-of .free-of .ensures .1) (after-place-here .place-here .ensures .1 src l) (after-if1 .if1 .left) k
+    (start .pre .1 .1) (after-reach-of .reach-of .ensures .1 .0) (after-expect .expect .ensures .1 .1 src l) (after-expr .expr .ensures .1 .1 src l)
+    (after-node .node .ensures .1 .1))
 
 pub monad-ok : {M : Type 1} (t : ℕ) → cycle.Lts-monad.Closed (claims-7 (monad-cs t)) (at monad-rank t) (monad-rank .post) M
 monad-ok t =
-    knowing (monad-cs t) _ (cycle.Lts-monad.spec (claims-7 (asked monad-cs t)) (at monad-rank t) (monad-rank .post) (λ c κs. omega arith) (λ c. search
-    needs) (λ c. monadic-shut _ (c .before .before .if1 .taken) (c .refuse .ensures .1)) (λ c κs. tt) (λ c κs. omega arith) (λ c κs. omega arith) (λ
-    c. omega arith) (λ c κs. tt) (λ c κs. omega (arith, c .before .before .expect)) (λ c κs. ready-leaves (c .before .before .before .expr .ensures .1
-    .0) (c .before .before .before .expr .kept .0) refl (ready-leaves (c .before .before .before .before .before .before .expect .ensures .1 .0) refl
-    refl (c .before .before .before .before .before .before .expect .ensures .0 .0))) (λ c. search needs) (monad-returns-2 t))
+    knowing (monad-cs t) _
+    (cycle.Lts-monad.spec (claims-7 (asked monad-cs t)) (at monad-rank t) (monad-rank .post) (λ c κs. omega arith) (λ c. search needs)
+    (λ c. monadic-shut _ (c .before .before .if1 .taken) (c .refuse .ensures .1)) (λ c κs. tt) (λ c κs. omega arith) (λ c κs. omega arith)
+    (λ c. omega arith) (λ c κs. tt) (λ c κs. pair (omega arith) (pair (past-symbol refl (c .before .before .expect .ensures)) (omega arith)))
+    (λ c κs. ready-leaves (c .before .before .before .expr .ensures .1 .0) (c .before .before .before .expr .kept .0) refl (past-symbol refl (c
+    .before .before .before .before .before .before .expect .ensures))) (λ c. search needs) (monad-returns-2 t))

@@ -15,7 +15,7 @@ use Rattle.tree.proofs.Commands.{unlabelled-guarded, unlabelled-leave, 
 use Rattle.tree.proofs.Helpers.{low-past}
 use Rattle.tree.proofs.Lists.{Before}
 use Rattle.tree.proofs.Loops.{SoFar, before-first, before-next, before-last, wordless, so-begins, many-turns, many-ends, many-spent}
-use Rattle.tree.proofs.Rooms.{left, room-left, leaves-less, ready-leaves, ready-takes, _plus_, _less_, ready-part, item-low, size-small}
+use Rattle.tree.proofs.Rooms.{past-symbol, past-part, past-expression, left, room-left, leaves-less, ready-leaves, ready-takes, _plus_, _less_, ready-part, item-low, size-small}
 use Rattle.tree.proofs.Rooms.{measured}
 use Rattle.tree.proofs.Steps.{pair, goes-on, adds-on, refuses-on, _then_}
 use Rattle.tree.proofs.Symbols.{lies-still}
@@ -30,22 +30,23 @@ use cycle.Proof.Ranks.{place-here, plain-rank, redo-rank, refuse, rest-rank, set
 abbrev cmd-cs : ℕ → List Callee
 cmd-cs t = kind-here ∷ is-label ∷ below cases-rank t ∷ below body-rank t ∷ []
 
-cmd-returns : (t : ℕ) → cycle.Lts-cmd.Need-returns (claims-4 (asked cmd-cs t)) (at cmd-rank t) (cmd-rank .post)
+cmd-returns : (t : ℕ) → cycle.Lts-cmd.Need-returns (claims-4 (cmd-cs t)) (at cmd-rank t) (cmd-rank .post)
 cmd-returns t c =
     let after-cases = c .before .before in let after-if1 = after-cases .before .before in let after-is-label = after-if1 .before in let
-    after-kind-here = after-is-label .before in pair (after-cases .cases .ensures .1 .0) (λ src l. after-cases .cases .ensures .1 .1 src l
-    (after-kind-here .kind-here .ensures .1 src l) (sym (after-is-label .is-label .ensures .1) ∙ after-if1 .if1 .taken))
+    after-kind-here = after-is-label .before in pair (after-cases .cases .ensures .0)
+    (λ src l. after-cases .cases .ensures .1 src l (after-kind-here .kind-here .ensures src l) (sym (after-is-label .is-label .ensures) ∙ after-if1
+    .if1 .taken))
 
-cmd-returns-2 : (t : ℕ) → cycle.Lts-cmd.Need-returns-2 (claims-4 (asked cmd-cs t)) (at cmd-rank t) (cmd-rank .post)
+cmd-returns-2 : (t : ℕ) → cycle.Lts-cmd.Need-returns-2 (claims-4 (cmd-cs t)) (at cmd-rank t) (cmd-rank .post)
 cmd-returns-2 t c =
     let after-body = c .before .before in let after-if1 = after-body .before .before in let after-is-label = after-if1 .before in let after-kind-here
-    = after-is-label .before in command-plain _ (after-kind-here .kind-here .ensures .1) (after-is-label .is-label .ensures .1) (after-if1 .if1 .left)
-    (after-body .body .ensures .1)
+    = after-is-label .before in command-plain _ (after-kind-here .kind-here .ensures) (after-is-label .is-label .ensures) (after-if1 .if1 .left)
+    (after-body .body .ensures)
 
 pub cmd-ok : {M : Type 1} (t : ℕ) → cycle.Lts-cmd.Closed (claims-4 (cmd-cs t)) (at cmd-rank t) (cmd-rank .post) M
 cmd-ok t =
-    knowing (cmd-cs t) _ (cycle.Lts-cmd.spec (claims-4 (asked cmd-cs t)) (at cmd-rank t) (cmd-rank .post) (λ c κs. omega arith) (λ c κs. tt) (λ c κs.
-    omega arith) (λ c. search needs) (cmd-returns t) (λ c κs. omega arith) (λ c. search needs) (cmd-returns-2 t))
+    cycle.Lts-cmd.spec (claims-4 (cmd-cs t)) (at cmd-rank t) (cmd-rank .post) (λ c κs. omega arith) (λ c κs. tt) (λ c κs. omega arith)
+    (λ c. search needs) (cmd-returns t) (λ c κs. omega arith) (λ c. search needs) (cmd-returns-2 t)
 
 abbrev cases-cs : ℕ → List Callee
 cases-cs t = free-of ∷ label ∷ labels ∷ minus ∷ below body-rank t ∷ node ∷ []
@@ -54,55 +55,58 @@ cases-returns : (t : ℕ) → cycle.Lts-cases.Need-returns (claims-6 (asked case
 cases-returns t c =
     let after-node = c .before .before in let after-body = after-node .before .before .before .before in let after-minus = after-body .before .before
     in let after-free-of2 = after-minus .before in let after-labels = after-free-of2 .before .before .before .before in let after-label = after-labels
-    .before .before .before .before in let after-free-of = after-label .before .before in pair (room-left (left (after-label .label .ensures .1 .0)
-    plus (after-labels .labels .ensures .1 .0) plus (after-body .body .ensures .1 .0) less (after-node .node .ensures .1 .0)) refl) (λ src l k q. (let
-    l₁ = lies-still l (after-label .label .ensures .1 .0 .kept) in let l₂ = lies-still l₁ (after-labels .labels .ensures .1 .0 .kept) in labelled-read
-    l _ _ k q (after-free-of .free-of .ensures .1) (measured _ _ (after-minus .minus .ensures .1) (after-free-of2 .free-of2 .ensures .1) (after-labels
-    .labels .kept .0 ∙ after-label .label .kept .0)) (after-label .label .ensures .1 .1 src l k) (after-labels .labels .ensures .1 .1 src l₁)
-    (after-body .body .ensures .1 .1 src l₂) (after-node .node .ensures .1 .1)))
+    .before .before .before .before in let after-free-of = after-label .before .before in pair
+    (room-left (left (after-label .label .ensures .1 .0) plus (after-labels .labels .ensures .1 .0) plus (after-body .body .ensures .1 .0) less
+    (after-node .node .ensures .1 .0)) refl) (λ src l k q. (let l₁ = lies-still l (after-label .label .ensures .1 .0 .kept) in let l₂ = lies-still l₁
+    (after-labels .labels .ensures .1 .0 .kept) in labelled-read l _ _ k q (after-free-of .free-of .ensures .1) (measured _ _ (after-minus .minus
+    .ensures .1) (after-free-of2 .free-of2 .ensures .1) (after-labels .labels .kept .0 ∙ after-label .label .kept .0)) (after-label .label .ensures .1
+    .1 src l k) (after-labels .labels .ensures .1 .1 src l₁) (after-body .body .ensures .1 .1 src l₂) (after-node .node .ensures .1 .1)))
 
 pub cases-ok : {M : Type 1} (t : ℕ) → cycle.Lts-cases.Closed (claims-6 (cases-cs t)) (at cases-rank t) (cases-rank .post) M
 cases-ok t =
-    knowing (cases-cs t) _ (cycle.Lts-cases.spec (claims-6 (asked cases-cs t)) (at cases-rank t) (cases-rank .post) (λ c κs. tt) (λ c κs. omega arith)
-    (λ c κs. omega (arith, c .before .before .before .label)) (λ c κs. tt) (λ c κs. tt) (λ c κs. omega (arith, c .before .before .before .before
-    .before .before .labels)) (λ c. let body = c .before .before .before in let minus = body .before .before in let free-of2 = minus .before in omega
-    (arith, size-small _ (minus .minus .ensures .1) (free-of2 .free-of2 .ensures .1) (body .body .ensures .0 .1))) (λ c κs. let body = c .before
-    .before .before in let labels = body .before .before .before .before .before .before .before in let label = labels .before .before .before .before
-    in ready-leaves (body .body .ensures .1 .0) (body .body .kept .0) refl (ready-leaves (labels .labels .ensures .1 .0) (labels .labels .kept .0)
-    refl (ready-leaves (label .label .ensures .1 .0) (label .label .kept .0) refl (label .label .ensures .0)))) (λ c. search needs) (cases-returns t))
+    knowing (cases-cs t) _
+    (cycle.Lts-cases.spec (claims-6 (asked cases-cs t)) (at cases-rank t) (cases-rank .post) (λ c κs. tt) (λ c κs. omega arith)
+    (λ c κs. let e = c .before .before .before .label in ready-leaves (e .ensures .1 .0) (e .kept .0) refl (e .ensures .0)) (λ c κs. tt) (λ c κs. tt)
+    (λ c κs. let e = c .before .before .before .before .before .before .labels in pair (omega arith) (ready-leaves (e .ensures .1 .0) (e .kept .0)
+    refl (e .ensures .0))) (λ c. let body = c .before .before .before in let minus = body .before .before in let free-of2 = minus .before in omega
+    (arith, size-small _ (minus .minus .ensures .1) (free-of2 .free-of2 .ensures .1) (body .body .ensures .0 .1)))
+    (λ c κs. let body = c .before .before .before in let labels = body .before .before .before .before .before .before .before in let label = labels
+    .before .before .before .before in ready-leaves (body .body .ensures .1 .0) (body .body .kept .0) refl (ready-leaves (labels .labels .ensures .1
+    .0) (labels .labels .kept .0) refl (ready-leaves (label .label .ensures .1 .0) (label .label .kept .0) refl (label .label .ensures .0))))
+    (λ c. search needs) (cases-returns t))
 
 abbrev body-cs : ℕ → List Callee
 body-cs t = kind-here ∷ begins-command ∷ refuse ∷ below redo-rank t ∷ []
 
-body-returns : (t : ℕ) → cycle.Lts-body.Need-returns (claims-4 (asked body-cs t)) (at body-rank t) (body-rank .post)
+body-returns : (t : ℕ) → cycle.Lts-body.Need-returns (claims-4 (body-cs t)) (at body-rank t) (body-rank .post)
 body-returns t c =
     let after-if2 = c .before .before in let after-if1 = after-if2 .before in let after-begins-command = after-if1 .before in let after-kind-here =
-    after-begins-command .before in body-shut _ _ (after-kind-here .kind-here .ensures .1) (after-begins-command .begins-command .ensures .1)
-    (after-if1 .if1 .taken) (after-if2 .if2 .taken) (c .refuse .ensures .1)
+    after-begins-command .before in body-shut _ _ (after-kind-here .kind-here .ensures) (after-begins-command .begins-command .ensures)
+    (after-if1 .if1 .taken) (after-if2 .if2 .taken) (c .refuse .ensures)
 
-body-returns-2 : (t : ℕ) → cycle.Lts-body.Need-returns-2 (claims-4 (asked body-cs t)) (at body-rank t) (body-rank .post)
+body-returns-2 : (t : ℕ) → cycle.Lts-body.Need-returns-2 (claims-4 (body-cs t)) (at body-rank t) (body-rank .post)
 body-returns-2 t c =
     let after-redo = c .before .before in let after-if2 = after-redo .before .before in let after-if1 = after-if2 .before in let after-begins-command
-    = after-if1 .before in let after-kind-here = after-begins-command .before in body-open _ _ (after-kind-here .kind-here .ensures .1)
-    (after-begins-command .begins-command .ensures .1) (after-if1 .if1 .taken) (after-if2 .if2 .left) (after-redo .redo .ensures .1)
+    = after-if1 .before in let after-kind-here = after-begins-command .before in body-open _ _ (after-kind-here .kind-here .ensures)
+    (after-begins-command .begins-command .ensures) (after-if1 .if1 .taken) (after-if2 .if2 .left) (after-redo .redo .ensures)
 
-body-returns-3 : (t : ℕ) → cycle.Lts-body.Need-returns-3 (claims-4 (asked body-cs t)) (at body-rank t) (body-rank .post)
+body-returns-3 : (t : ℕ) → cycle.Lts-body.Need-returns-3 (claims-4 (body-cs t)) (at body-rank t) (body-rank .post)
 body-returns-3 t c =
     let after-if1 = c .before in let after-begins-command = after-if1 .before in let after-kind-here = after-begins-command .before in let start =
-    after-kind-here .before .before .before in body-empty _ _ (after-kind-here .kind-here .ensures .1) (after-begins-command .begins-command .ensures
-    .1) (after-if1 .if1 .left) (start .pre .1) (c .if3 .taken)
+    after-kind-here .before .before .before in body-empty _ _ (after-kind-here .kind-here .ensures) (after-begins-command .begins-command .ensures)
+    (after-if1 .if1 .left) (start .pre .1) (c .if3 .taken)
 
-body-returns-4 : (t : ℕ) → cycle.Lts-body.Need-returns-4 (claims-4 (asked body-cs t)) (at body-rank t) (body-rank .post)
+body-returns-4 : (t : ℕ) → cycle.Lts-body.Need-returns-4 (claims-4 (body-cs t)) (at body-rank t) (body-rank .post)
 body-returns-4 t c =
     let after-if3 = c .before .before in let after-if1 = after-if3 .before in let after-begins-command = after-if1 .before in let after-kind-here =
-    after-begins-command .before in body-none _ _ (after-kind-here .kind-here .ensures .1) (after-begins-command .begins-command .ensures .1)
-    (after-if1 .if1 .left) (after-if3 .if3 .left) (c .refuse2 .ensures .1)
+    after-begins-command .before in body-none _ _ (after-kind-here .kind-here .ensures) (after-begins-command .begins-command .ensures)
+    (after-if1 .if1 .left) (after-if3 .if3 .left) (c .refuse2 .ensures)
 
 pub body-ok : {M : Type 1} (t : ℕ) → cycle.Lts-body.Closed (claims-4 (body-cs t)) (at body-rank t) (body-rank .post) M
 body-ok t =
-    knowing (body-cs t) _ (cycle.Lts-body.spec (claims-4 (asked body-cs t)) (at body-rank t) (body-rank .post) (λ c κs. omega arith) (λ c κs. tt) (λ c
-    κs. omega arith) (λ c. search needs) (body-returns t) (λ c. omega arith) (λ c κs. omega arith) (λ c. search needs) (body-returns-2 t) (λ c. search
-    needs) (body-returns-3 t) (λ c κs. omega arith) (λ c. search needs) (body-returns-4 t))
+    cycle.Lts-body.spec (claims-4 (body-cs t)) (at body-rank t) (body-rank .post) (λ c κs. omega arith) (λ c κs. tt) (λ c κs. omega arith)
+    (λ c. search needs) (body-returns t) (λ c. omega arith) (λ c κs. omega arith) (λ c. search needs) (body-returns-2 t) (λ c. search needs)
+    (body-returns-3 t) (λ c κs. omega arith) (λ c. search needs) (body-returns-4 t)
 
 abbrev redo-cs : ℕ → List Callee
 redo-cs t = free-of ∷ below plain-rank t ∷ kind-here ∷ is-repeat ∷ minus ∷ below form-rank t ∷ below forms-rank t ∷ node ∷ []
@@ -112,139 +116,150 @@ redo-returns t c =
     let after-node = c .before .before in let after-forms = after-node .before .before .before .before in let after-form = after-forms .before .before
     .before .before in let after-minus = after-form .before .before in let after-free-of2 = after-minus .before in let after-if1 = after-free-of2
     .before .before in let after-is-repeat = after-if1 .before in let after-kind-here = after-is-repeat .before in let after-plain = after-kind-here
-    .before .before .before .before in let after-free-of = after-plain .before .before in pair (room-left (left (after-plain .plain .ensures .1 .0)
-    plus (after-form .form .ensures .1 .0) plus (after-forms .forms .ensures .1 .0) less (after-node .node .ensures .1 .0)) refl) (λ src l. (let l₁ =
-    lies-still l (after-plain .plain .ensures .1 .0 .kept) in let l₂ = lies-still l₁ (after-form .form .ensures .1 .0 .kept) in repeated-more l₁ _ _
-    (after-kind-here .kind-here .ensures .1 src l₁) (after-plain .plain .ensures .1 .1 src l) (sym (after-is-repeat .is-repeat .ensures .1) ∙
-    after-if1 .if1 .taken) (after-free-of .free-of .ensures .1) (measured _ _ (after-minus .minus .ensures .1) (after-free-of2 .free-of2 .ensures .1)
-    (after-plain .plain .kept .0)) (after-form .form .ensures .1 .1 src l₁ (after-kind-here .kind-here .ensures .1 src l₁)) (after-forms .forms
-    .ensures .1 .1 src l₂) (after-node .node .ensures .1 .1)))
+    .before .before .before .before in let after-free-of = after-plain .before .before in pair
+    (room-left (left (after-plain .plain .ensures .1 .0) plus (after-form .form .ensures .1 .0) plus (after-forms .forms .ensures .1 .0) less
+    (after-node .node .ensures .1 .0)) refl) (λ src l. (let l₁ = lies-still l (after-plain .plain .ensures .1 .0 .kept) in let l₂ = lies-still l₁
+    (after-form .form .ensures .1 .0 .kept) in repeated-more l₁ _ _ (after-kind-here .kind-here .ensures .1 src l₁) (after-plain .plain .ensures .1 .1
+    src l) (sym (after-is-repeat .is-repeat .ensures .1) ∙ after-if1 .if1 .taken) (after-free-of .free-of .ensures .1) (measured _ _ (after-minus
+    .minus .ensures .1) (after-free-of2 .free-of2 .ensures .1) (after-plain .plain .kept .0)) (after-form .form .ensures .1 .1 src l₁ (after-kind-here
+    .kind-here .ensures .1 src l₁)) (after-forms .forms .ensures .1 .1 src l₂) (after-node .node .ensures .1 .1)))
 
 redo-returns-2 : (t : ℕ) → cycle.Lts-redo.Need-returns-2 (claims-8 (asked redo-cs t)) (at redo-rank t) (redo-rank .post)
 redo-returns-2 t c =
     let after-is-repeat = c .before in let after-kind-here = after-is-repeat .before in let after-plain = after-kind-here .before .before .before
-    .before in pair (leaves-less (after-plain .plain .ensures .1 .0) refl) (λ src l. (let l₁ = lies-still l (after-plain .plain .ensures .1 .0 .kept)
-    in repeated-one l₁ 0 _ (after-kind-here .kind-here .ensures .1 src l₁) (after-plain .plain .ensures .1 .1 src l) (sym (after-is-repeat .is-repeat
-    .ensures .1) ∙ c .if1 .left)))
+    .before in pair (leaves-less (after-plain .plain .ensures .1 .0) refl)
+    (λ src l. (let l₁ = lies-still l (after-plain .plain .ensures .1 .0 .kept) in repeated-one l₁ 0 _ (after-kind-here .kind-here .ensures .1 src l₁)
+    (after-plain .plain .ensures .1 .1 src l) (sym (after-is-repeat .is-repeat .ensures .1) ∙ c .if1 .left)))
 
 pub redo-ok : {M : Type 1} (t : ℕ) → cycle.Lts-redo.Closed (claims-8 (redo-cs t)) (at redo-rank t) (redo-rank .post) M
 redo-ok t =
-    knowing (redo-cs t) _ (cycle.Lts-redo.spec (claims-8 (asked redo-cs t)) (at redo-rank t) (redo-rank .post) (λ c κs. tt) (λ c κs. omega arith) (λ c
-    κs. omega (arith, c .before .before .before .plain)) (λ c κs. tt) (λ c κs. tt) (λ c κs. tt) (λ c κs. let if1 = c .before .before .before .before
-    in let is-repeat = if1 .before in let kind-here = is-repeat .before in let start = kind-here .before .before .before .before .before .before
-    .before .before .before in (omega (arith, start .pre .0), (kind-here .kind-here .ensures .0, repeat-positive _ (is-repeat .is-repeat .ensures .1)
-    (if1 .if1 .taken)))) (λ c κs. omega (arith, c .before .before .before .before .before .before .before .before .before .before .before .before
-    .before .before .before .before .before .before .before .pre .0, c .before .before .before .form)) (λ c. let form = c .before .before .before
-    .before .before .before .before in let minus = form .before .before in let free-of2 = minus .before in omega (arith, size-small _ (minus .minus
-    .ensures .1) (free-of2 .free-of2 .ensures .1) (form .form .ensures .0 .1 .0))) (λ c κs. let forms = c .before .before .before in let form = forms
-    .before .before .before .before in let plain = form .before .before .before .before .before .before .before .before .before .before .before in
-    ready-leaves (forms .forms .ensures .1 .0) (forms .forms .kept .0) refl (ready-leaves (form .form .ensures .1 .0) (form .form .kept .0) refl
-    (ready-leaves (plain .plain .ensures .1 .0) (plain .plain .kept .0) refl (plain .plain .ensures .0 .1)))) (λ c. search needs) (redo-returns t) (λ
-    c. search needs) (redo-returns-2 t))
+    knowing (redo-cs t) _
+    (cycle.Lts-redo.spec (claims-8 (asked redo-cs t)) (at redo-rank t) (redo-rank .post) (λ c κs. tt) (λ c κs. omega arith)
+    (λ c κs. let e = c .before .before .before .plain in past-part refl (e .ensures) (e .kept .0)) (λ c κs. tt) (λ c κs. tt) (λ c κs. tt)
+    (λ c κs. let if1 = c .before .before .before .before in let is-repeat = if1 .before in let kind-here = is-repeat .before in let start = kind-here
+    .before .before .before .before .before .before .before .before .before in pair (omega (arith, start .pre .0)) (pair (kind-here .kind-here
+    .ensures .0) (repeat-positive _ (is-repeat .is-repeat .ensures .1) (if1 .if1 .taken))))
+    (λ c κs. pair (omega (
+      arith,
+      c .before .before .before .before .before .before .before .before .before .before .before .before .before .before
+          .before .before .before .before .before .pre .0,
+    )) (past-expression refl (c .before .before .before .form .ensures) (c .before .before .before
+    .form .kept .0))) (λ c. let form = c .before .before .before .before .before .before .before in let minus = form .before .before in let free-of2 =
+    minus .before in omega (arith, size-small _ (minus .minus .ensures .1) (free-of2 .free-of2 .ensures .1) (form .form .ensures .0 .1 .0)))
+    (λ c κs. let forms = c .before .before .before in let form = forms .before .before .before .before in let plain = form .before .before .before
+    .before .before .before .before .before .before .before .before in ready-leaves (forms .forms .ensures .1 .0) (forms .forms .kept .0) refl
+    (ready-leaves (form .form .ensures .1 .0) (form .form .kept .0) refl (ready-leaves (plain .plain .ensures .1 .0) (plain .plain .kept .0) refl
+    (plain .plain .ensures .0 .1)))) (λ c. search needs) (redo-returns t) (λ c. search needs) (redo-returns-2 t))
 
 abbrev forms-cs : ℕ → List Callee
 forms-cs t = minus ∷ kind-here ∷ is-repeat ∷ below form-rank t ∷ []
 
 abbrev forms-inv : cycle.Lts-forms.InvT-loop
 forms-inv s₀ n levels turns₀ a₀ s turns a =
-    SoFar (Before encodeRepeats) (manyUpTo turns₀ T.noRepeats isRepeat (C.repeatForm (readers (within levels)))) (manyUpTo turns T.noRepeats isRepeat
-    (C.repeatForm (readers (within levels)))) s₀ s n a₀ a
+    SoFar (Before encodeRepeats) (manyUpTo turns₀ T.noRepeats isRepeat (C.repeatForm (readers (within levels))))
+    (manyUpTo turns T.noRepeats isRepeat (C.repeatForm (readers (within levels)))) s₀ s n a₀ a
 
 abbrev forms-turns : cycle.Lts-forms.MeasureT-loop
 forms-turns s₀ n levels turns₀ a₀ s turns a = turns
 
-forms-loop-again : (t : ℕ) → cycle.Lts-forms.Need-loop-again (claims-4 (asked forms-cs t)) (at forms-rank t) (forms-rank .post) forms-inv forms-turns
+forms-loop-again : (t : ℕ) → cycle.Lts-forms.Need-loop-again (claims-4 (forms-cs t)) (at forms-rank t) (forms-rank .post) forms-inv forms-turns
 forms-loop-again t c =
     let after-form = c .before .before in let after-if1 = after-form .before .before in let after-is-repeat = after-if1 .before in let after-kind-here
     = after-is-repeat .before in let in-loop = after-kind-here .before .before .before in many-turns _ _ _ _ before-next (in-loop .loop .inv)
-    (after-kind-here .kind-here .ensures .1) (sym (after-is-repeat .is-repeat .ensures .1) ∙ after-if1 .if1 .taken) (after-form .form .ensures .1)
+    (after-kind-here .kind-here .ensures) (sym (after-is-repeat .is-repeat .ensures) ∙ after-if1 .if1 .taken) (after-form .form .ensures)
     (after-form .form .kept .0) (omega arith)
 
-forms-returns : (t : ℕ) → cycle.Lts-forms.Need-returns (claims-4 (asked forms-cs t)) (at forms-rank t) (forms-rank .post) forms-inv forms-turns
+forms-returns : (t : ℕ) → cycle.Lts-forms.Need-returns (claims-4 (forms-cs t)) (at forms-rank t) (forms-rank .post) forms-inv forms-turns
 forms-returns t c =
     let after-is-repeat = c .before in let after-kind-here = after-is-repeat .before in let in-loop = after-kind-here .before .before .before in let
-    after-minus = in-loop .before in many-ends _ _ _ _ before-last (wordless no-repeat-words) (after-minus .minus .ensures .1) (in-loop .loop .inv)
-    (after-kind-here .kind-here .ensures .1) (sym (after-is-repeat .is-repeat .ensures .1) ∙ c .if1 .left)
+    after-minus = in-loop .before in many-ends _ _ _ _ before-last (wordless no-repeat-words) (after-minus .minus .ensures) (in-loop .loop .inv)
+    (after-kind-here .kind-here .ensures) (sym (after-is-repeat .is-repeat .ensures) ∙ c .if1 .left)
 
 pub forms-ok : {M : Type 1} (t : ℕ) → cycle.Lts-forms.Closed (claims-4 (forms-cs t)) (at forms-rank t) (forms-rank .post) M
 forms-ok t =
-    knowing (forms-cs t) _ (cycle.Lts-forms.spec (claims-4 (asked forms-cs t)) (at forms-rank t) (forms-rank .post) forms-inv forms-turns (λ c κs. tt)
-    (λ c. so-begins (c .before .before .pre .1) before-first) (λ c κs. omega (arith, c .before .before .loop, c .before .before .before .before
-    .before .pre)) (λ c κs. tt) (λ c κs. let if1 = c .before in let is-repeat = if1 .before in let kind-here = is-repeat .before in (omega arith,
-    (kind-here .kind-here .ensures .0, repeat-positive _ (is-repeat .is-repeat .ensures .1) (if1 .if1 .taken)))) (λ c. omega arith) (λ c. omega arith)
-    (forms-loop-again t) (λ c. search needs) (forms-returns t) (λ c. search needs) (λ c. many-spent _ _ _ _ before-last (wordless no-repeat-words) (c
-    .before .before .minus .ensures .1) (c .before .loop .inv) (omega arith)))
+    cycle.Lts-forms.spec (claims-4 (forms-cs t)) (at forms-rank t) (forms-rank .post) forms-inv forms-turns (λ c κs. tt)
+    (λ c. so-begins (c .before .before .pre .1) before-first)
+    (λ c κs. ready-leaves (c .before .before .loop .inv .room) (c .before .before .loop .inv .same) refl (c .before .before .before .before .before
+    .pre .1)) (λ c κs. tt) (λ c κs. let if1 = c .before in let is-repeat = if1 .before in let at-loop = is-repeat .before .before .before .before in
+    let start = at-loop .before .before .before in pair (omega arith) (pair (ready-leaves (at-loop .loop .inv .room) (at-loop .loop .inv .same) refl
+    (start .pre .1)) (repeat-positive _ (is-repeat .is-repeat .ensures) (if1 .if1 .taken)))) (λ c. omega arith) (λ c. omega arith)
+    (forms-loop-again t) (λ c. search needs) (forms-returns t) (λ c. search needs)
+    (λ c. many-spent _ _ _ _ before-last (wordless no-repeat-words) (c .before .before .minus .ensures) (c .before .loop .inv) (omega arith))
 
 abbrev form-cs : ℕ → List Callee
 form-cs t = free-of ∷ expect ∷ begin-item ∷ below expr-rank t ∷ set-size ∷ []
 
 form-returns : (t : ℕ) → cycle.Lts-form.Need-returns (claims-5 (asked form-cs t)) (at form-rank t) (form-rank .post)
 form-returns t c =
-    let after-begin-item = c .before .before .before in let after-expect = after-begin-item .before .before in pair (room-left (left (after-expect
-    .expect .ensures .1 .0) less (after-begin-item .begin-item .ensures .1 .0)) refl) (λ src l k. repeat-read src 0 _ k (c .if1 .taken) (after-expect
-    .expect .ensures .1 .1 src l) (after-begin-item .begin-item .ensures .1 .1))
+    let after-begin-item = c .before .before .before in let after-expect = after-begin-item .before .before in pair
+    (room-left (left (after-expect .expect .ensures .1 .0) less (after-begin-item .begin-item .ensures .1 .0)) refl)
+    (λ src l k. repeat-read src 0 _ k (c .if1 .taken) (after-expect .expect .ensures .1 .1 src l) (after-begin-item .begin-item .ensures .1 .1))
 
 form-returns-2 : (t : ℕ) → cycle.Lts-form.Need-returns-2 (claims-5 (asked form-cs t)) (at form-rank t) (form-rank .post)
 form-returns-2 t c =
     let after-set-size = c .before .before in let after-expr = after-set-size .before .before .before .before in let after-if1 = after-expr .before
     .before in let after-begin-item = after-if1 .before .before .before in let after-expect = after-begin-item .before .before in let after-free-of =
-    after-expect .before .before in let start = after-free-of .before .before .before in pair (room-left (left (after-expect .expect .ensures .1 .0)
-    less (after-begin-item .begin-item .ensures .1 .0) plus (after-expr .expr .ensures .1 .0) plus (after-set-size .set-size .ensures .1 .0)) refl) (λ
-    src l k. repeat-on-read src _ _ k (after-free-of .free-of .ensures .1) (after-if1 .if1 .left) (low-past (start .pre .1 .0) (after-expect .expect
-    .ensures .1 .0)) (after-expect .expect .ensures .1 .1 src l) (after-begin-item .begin-item .ensures .1 .1) (after-expr .expr .ensures .1 .1 src
-    (lies-still l (after-begin-item .begin-item .ensures .1 .0 .kept))) (after-set-size .set-size .ensures .1 .1))
+    after-expect .before .before in let start = after-free-of .before .before .before in pair
+    (room-left (left (after-expect .expect .ensures .1 .0) less (after-begin-item .begin-item .ensures .1 .0) plus (after-expr .expr .ensures .1 .0)
+    plus (after-set-size .set-size .ensures .1 .0)) refl) (λ src l k. repeat-on-read src _ _ k (after-free-of .free-of .ensures .1) (after-if1 .if1
+    .left) (low-past (start .pre .1 .0) (after-expect .expect .ensures .1 .0)) (after-expect .expect .ensures .1 .1 src l) (after-begin-item
+    .begin-item .ensures .1 .1) (after-expr .expr .ensures .1 .1 src (lies-still l (after-begin-item .begin-item .ensures .1 .0 .kept)))
+    (after-set-size .set-size .ensures .1 .1))
 
 pub form-ok : {M : Type 1} (t : ℕ) → cycle.Lts-form.Closed (claims-5 (form-cs t)) (at form-rank t) (form-rank .post) M
 form-ok t =
-    knowing (form-cs t) _ (cycle.Lts-form.spec (claims-5 (asked form-cs t)) (at form-rank t) (form-rank .post) (λ c κs. tt) (λ c κs. omega arith) (λ c
-    κs. ready-leaves (c .before .expect .ensures .1 .0) refl refl (c .before .expect .ensures .0 .0)) (λ c. search needs) (form-returns t) (λ c κs.
-    (omega arith, (ready-takes (c .before .before .before .before .begin-item .ensures .1 .0) (c .before .before .before .before .begin-item .kept .0)
-    (c .before .before .before .before .begin-item .ensures .0), omega arith))) (λ c κs. let expr = c .before .before .before in let expect = expr
-    .before .before .before .before .before .before .before in let free-of = expect .before .before in (omega (arith, expr .expr), item-low (free-of
-    .free-of .ensures .1) (expect .expect .ensures .0 .0))) (λ c. search needs) (form-returns-2 t))
+    knowing (form-cs t) _
+    (cycle.Lts-form.spec (claims-5 (asked form-cs t)) (at form-rank t) (form-rank .post) (λ c κs. tt) (λ c κs. omega arith)
+    (λ c κs. past-symbol refl (c .before .expect .ensures)) (λ c. search needs) (form-returns t)
+    (λ c κs. pair (omega arith) (pair (ready-takes (c .before .before .before .before .begin-item .ensures .1 .0) (c .before .before .before .before
+    .begin-item .kept .0) (c .before .before .before .before .begin-item .ensures .0)) (omega arith)))
+    (λ c κs. let expr = c .before .before .before in let expect = expr .before .before .before .before .before .before .before in let free-of = expect
+    .before .before in pair (past-expression refl (expr .expr .ensures) (expr .expr .kept .0)) (item-low (free-of .free-of .ensures .1) (expect
+    .expect .ensures .0 .0))) (λ c. search needs) (form-returns-2 t))
 
 abbrev plain-cs : ℕ → List Callee
 plain-cs t =
     kind-here ∷ is-guard ∷ below when-rank t ∷ is-leave ∷ leave ∷ below test-rank t ∷ below step-rank t ∷ below pick-rank t ∷ below give-rank t ∷
     below block-rank t ∷ below bare-rank t ∷ []
 
-plain-returns : (t : ℕ) → cycle.Lts-plain.Need-returns (claims-11 (asked plain-cs t)) (at plain-rank t) (plain-rank .post)
+plain-returns : (t : ℕ) → cycle.Lts-plain.Need-returns (claims-11 (plain-cs t)) (at plain-rank t) (plain-rank .post)
 plain-returns t c =
     let after-when = c .before .before in let after-if1 = after-when .before .before in let after-is-guard = after-if1 .before in let after-kind-here
-    = after-is-guard .before in unlabelled-guarded _ (after-kind-here .kind-here .ensures .1) (after-is-guard .is-guard .ensures .1) (after-if1 .if1
-    .taken) (after-when .when .ensures .1)
+    = after-is-guard .before in unlabelled-guarded _ (after-kind-here .kind-here .ensures) (after-is-guard .is-guard .ensures) (after-if1 .if1 .taken)
+    (after-when .when .ensures)
 
-plain-returns-2 : (t : ℕ) → cycle.Lts-plain.Need-returns-2 (claims-11 (asked plain-cs t)) (at plain-rank t) (plain-rank .post)
+plain-returns-2 : (t : ℕ) → cycle.Lts-plain.Need-returns-2 (claims-11 (plain-cs t)) (at plain-rank t) (plain-rank .post)
 plain-returns-2 t c =
     let after-leave = c .before .before in let after-if2 = after-leave .before .before in let after-is-leave = after-if2 .before in let after-if1 =
     after-is-leave .before in let after-is-guard = after-if1 .before in let after-kind-here = after-is-guard .before in unlabelled-leave _
-    (after-kind-here .kind-here .ensures .1) (after-is-guard .is-guard .ensures .1) (after-if1 .if1 .left) (after-is-leave .is-leave .ensures .1)
-    (after-if2 .if2 .taken) (after-leave .leave .ensures .1)
+    (after-kind-here .kind-here .ensures) (after-is-guard .is-guard .ensures) (after-if1 .if1 .left) (after-is-leave .is-leave .ensures)
+    (after-if2 .if2 .taken) (after-leave .leave .ensures)
 
-plain-returns-8 : (t : ℕ) → cycle.Lts-plain.Need-returns-8 (claims-11 (asked plain-cs t)) (at plain-rank t) (plain-rank .post)
+plain-returns-8 : (t : ℕ) → cycle.Lts-plain.Need-returns-8 (claims-11 (plain-cs t)) (at plain-rank t) (plain-rank .post)
 plain-returns-8 t c =
     let after-bare = c .before .before in let after-match = after-bare .before .before in let after-if2 = after-match .before in let after-is-leave =
     after-if2 .before in let after-if1 = after-is-leave .before in let after-is-guard = after-if1 .before in let after-kind-here = after-is-guard
-    .before in unlabelled-other _ (after-kind-here .kind-here .ensures .1) (after-is-guard .is-guard .ensures .1) (after-if1 .if1 .left)
-    (after-is-leave .is-leave .ensures .1) (after-if2 .if2 .left) (after-match .match .rest) (after-bare .bare .ensures .1)
+    .before in unlabelled-other _ (after-kind-here .kind-here .ensures) (after-is-guard .is-guard .ensures) (after-if1 .if1 .left)
+    (after-is-leave .is-leave .ensures) (after-if2 .if2 .left) (after-match .match .rest) (after-bare .bare .ensures)
 
 pub plain-ok : {M : Type 1} (t : ℕ) → cycle.Lts-plain.Closed (claims-11 (plain-cs t)) (at plain-rank t) (plain-rank .post) M
 plain-ok t =
-    knowing (plain-cs t) _ (cycle.Lts-plain.spec (claims-11 (asked plain-cs t)) (at plain-rank t) (plain-rank .post) (λ c κs. omega arith) (λ c κs.
-    tt) (λ c κs. let if1 = c .before in let is-guard = if1 .before in let start = is-guard .before .before .before .before in (omega arith, (start
-    .pre .1, guard-positive _ (is-guard .is-guard .ensures .1) (if1 .if1 .taken)))) (λ c. search needs) (plain-returns t) (λ c κs. tt) (λ c κs. let
-    if2 = c .before in let is-leave = if2 .before in let start = is-leave .before .before .before .before .before .before in (start .pre .1,
-    leave-positive _ (is-leave .is-leave .ensures .1) (if2 .if2 .taken))) (λ c. search needs) (plain-returns-2 t) (λ c κs. omega arith) (λ c κs. omega
-    arith) (λ c κs. omega arith) (λ c κs. omega arith) (λ c κs. omega arith) (λ c κs. omega arith) (λ c. search needs) (λ c. unlabelled-test _ (c
-    .before .before .before .before .before .before .before .before .before .kind-here .ensures .1) (c .before .before .before .before .match .keys1)
-    (c .before .before .test .ensures .1)) (λ c. search needs) (λ c. unlabelled-for _ (c .before .before .before .before .before .before .before
-    .before .before .kind-here .ensures .1) (c .before .before .before .before .match .keys2) (c .before .before .step .ensures .1)) (λ c. search
-    needs) (λ c. unlabelled-switchon _ (c .before .before .before .before .before .before .before .before .before .kind-here .ensures .1) (c .before
-    .before .before .before .match .keys3) (c .before .before .pick .ensures .1)) (λ c. search needs) (λ c. unlabelled-resultis _ (c .before .before
-    .before .before .before .before .before .before .before .kind-here .ensures .1) (c .before .before .before .before .match .keys4) (c .before
-    .before .give .ensures .1)) (λ c. search needs) (λ c. unlabelled-block _ (c .before .before .before .before .before .before .before .before
-    .before .kind-here .ensures .1) (c .before .before .before .before .match .keys5) (c .before .before .block .ensures .1)) (λ c. search needs)
-    (plain-returns-8 t))
+    cycle.Lts-plain.spec (claims-11 (plain-cs t)) (at plain-rank t) (plain-rank .post) (λ c κs. omega arith) (λ c κs. tt)
+    (λ c κs. let if1 = c .before in let is-guard = if1 .before in let start = is-guard .before .before .before .before in pair (omega arith) (pair
+    (start .pre .1) (guard-positive _ (is-guard .is-guard .ensures) (if1 .if1 .taken)))) (λ c. search needs) (plain-returns t) (λ c κs. tt)
+    (λ c κs. let if2 = c .before in let is-leave = if2 .before in let start = is-leave .before .before .before .before .before .before in pair (start
+    .pre .1) (leave-positive _ (is-leave .is-leave .ensures) (if2 .if2 .taken))) (λ c. search needs) (plain-returns-2 t) (λ c κs. omega arith)
+    (λ c κs. omega arith) (λ c κs. omega arith) (λ c κs. omega arith) (λ c κs. omega arith) (λ c κs. omega arith) (λ c. search needs)
+    (λ c. unlabelled-test _ (c .before .before .before .before .before .before .before .before .before .kind-here .ensures) (c .before .before .before
+    .before .match .keys1) (c .before .before .test .ensures)) (λ c. search needs)
+    (λ c. unlabelled-for _ (c .before .before .before .before .before .before .before .before .before .kind-here .ensures) (c .before .before .before
+    .before .match .keys2) (c .before .before .step .ensures)) (λ c. search needs)
+    (λ c. unlabelled-switchon _ (c .before .before .before .before .before .before .before .before .before .kind-here .ensures) (c .before .before
+    .before .before .match .keys3) (c .before .before .pick .ensures)) (λ c. search needs)
+    (λ c. unlabelled-resultis _ (c .before .before .before .before .before .before .before .before .before .kind-here .ensures) (c .before .before
+    .before .before .match .keys4) (c .before .before .give .ensures)) (λ c. search needs)
+    (λ c. unlabelled-block _ (c .before .before .before .before .before .before .before .before .before .kind-here .ensures) (c .before .before
+    .before .before .match .keys5) (c .before .before .block .ensures)) (λ c. search needs) (plain-returns-8 t)
 
 abbrev test-cs : ℕ → List Callee
 test-cs t = free-of ∷ expect ∷ below expr-rank t ∷ below cmd-rank t ∷ node ∷ []
@@ -263,11 +278,15 @@ test-returns t c =
 
 pub test-ok : {M : Type 1} (t : ℕ) → cycle.Lts-test.Closed (claims-5 (test-cs t)) (at test-rank t) (test-rank .post) M
 test-ok t =
-    knowing (test-cs t) _ (cycle.Lts-test.spec (claims-5 (asked test-cs t)) (at test-rank t) (test-rank .post) (λ c κs. tt) (λ c κs. omega arith) (λ c
-    κs. omega (arith, c .before .expect)) (λ c κs. omega (arith, c .before .before .before .expr)) (λ c κs. omega (arith, c .before .expect2)) (λ c
-    κs. omega (arith, c .before .before .before .cmd)) (λ c κs. omega (arith, c .before .expect3)) (λ c κs. ready-leaves (c .before .before .before
-    .cmd2 .ensures .1 .0) (c .before .before .before .cmd2 .kept .0) refl (ready-leaves (c .before .before .before .before .before .expect3 .ensures
-    .1 .0) refl refl (c .before .before .before .before .before .expect3 .ensures .0 .0))) (λ c. search needs) (test-returns t))
+    knowing (test-cs t) _
+    (cycle.Lts-test.spec (claims-5 (asked test-cs t)) (at test-rank t) (test-rank .post) (λ c κs. tt) (λ c κs. omega arith)
+    (λ c κs. pair (omega arith) (pair (past-symbol refl (c .before .expect .ensures)) (omega arith)))
+    (λ c κs. let e = c .before .before .before .expr in pair (past-expression refl (e .ensures) (e .kept .0)) (omega arith))
+    (λ c κs. pair (omega arith) (past-symbol refl (c .before .expect2 .ensures)))
+    (λ c κs. let e = c .before .before .before .cmd in pair (past-part refl (e .ensures) (e .kept .0)) (omega arith))
+    (λ c κs. pair (omega arith) (past-symbol refl (c .before .expect3 .ensures)))
+    (λ c κs. ready-leaves (c .before .before .before .cmd2 .ensures .1 .0) (c .before .before .before .cmd2 .kept .0) refl (past-symbol refl (c
+    .before .before .before .before .before .expect3 .ensures))) (λ c. search needs) (test-returns t))
 
 abbrev when-cs : ℕ → List Callee
 when-cs t = free-of ∷ expect ∷ below expr-rank t ∷ below cmd-rank t ∷ node ∷ []
@@ -277,18 +296,20 @@ when-returns t c =
     let after-node = c .before .before in let after-cmd = after-node .before .before .before .before in let after-expect2 = after-cmd .before .before
     in let after-expr = after-expect2 .before .before .before .before in let after-expect = after-expr .before .before in let after-free-of =
     after-expect .before .before in pair (room-left (left (after-expect .expect .ensures .1 .0) plus (after-expr .expr .ensures .1 .0) plus
-    (after-expect2 .expect2 .ensures .1 .0) plus (after-cmd .cmd .ensures .1 .0) less (after-node .node .ensures .1 .0)) refl) (λ src l k. (let l₂ =
-    lies-still l (after-expr .expr .ensures .1 .0 .kept) in guarded-read l _ _ (after-free-of .free-of .ensures .1) k (after-expect .expect .ensures
-    .1 .1 src l) (after-expr .expr .ensures .1 .1 src l) (after-expect2 .expect2 .ensures .1 .1 src l₂) (after-cmd .cmd .ensures .1 .1 src l₂)
-    (after-node .node .ensures .1 .1)))
+    (after-expect2 .expect2 .ensures .1 .0) plus (after-cmd .cmd .ensures .1 .0) less (after-node .node .ensures .1 .0)) refl)
+    (λ src l k. (let l₂ = lies-still l (after-expr .expr .ensures .1 .0 .kept) in guarded-read l _ _ (after-free-of .free-of .ensures .1) k
+    (after-expect .expect .ensures .1 .1 src l) (after-expr .expr .ensures .1 .1 src l) (after-expect2 .expect2 .ensures .1 .1 src l₂) (after-cmd .cmd
+    .ensures .1 .1 src l₂) (after-node .node .ensures .1 .1)))
 
 pub when-ok : {M : Type 1} (t : ℕ) → cycle.Lts-when.Closed (claims-5 (when-cs t)) (at when-rank t) (when-rank .post) M
 when-ok t =
-    knowing (when-cs t) _ (cycle.Lts-when.spec (claims-5 (asked when-cs t)) (at when-rank t) (when-rank .post) (λ c κs. tt) (λ c κs. omega arith) (λ c
-    κs. omega (arith, c .before .expect)) (λ c κs. omega (arith, c .before .before .before .expr)) (λ c κs. omega (arith, c .before .expect2)) (λ c
-    κs. ready-leaves (c .before .before .before .cmd .ensures .1 .0) (c .before .before .before .cmd .kept .0) refl (ready-leaves (c .before .before
-    .before .before .before .expect2 .ensures .1 .0) refl refl (c .before .before .before .before .before .expect2 .ensures .0 .0))) (λ c. search
-    needs) (when-returns t))
+    knowing (when-cs t) _
+    (cycle.Lts-when.spec (claims-5 (asked when-cs t)) (at when-rank t) (when-rank .post) (λ c κs. tt) (λ c κs. omega arith)
+    (λ c κs. pair (omega arith) (pair (past-symbol refl (c .before .expect .ensures)) (omega arith)))
+    (λ c κs. let e = c .before .before .before .expr in pair (past-expression refl (e .ensures) (e .kept .0)) (omega arith))
+    (λ c κs. pair (omega arith) (past-symbol refl (c .before .expect2 .ensures)))
+    (λ c κs. ready-leaves (c .before .before .before .cmd .ensures .1 .0) (c .before .before .before .cmd .kept .0) refl (past-symbol refl (c .before
+    .before .before .before .before .expect2 .ensures))) (λ c. search needs) (when-returns t))
 
 abbrev give-cs : ℕ → List Callee
 give-cs t = free-of ∷ place-here ∷ expect ∷ below expr-rank t ∷ node ∷ []
@@ -296,17 +317,18 @@ give-cs t = free-of ∷ place-here ∷ expect ∷ below expr-rank t ∷ node ∷
 give-returns : (t : ℕ) → cycle.Lts-give.Need-returns (claims-5 (asked give-cs t)) (at give-rank t) (give-rank .post)
 give-returns t c =
     let after-node = c .before .before in let after-expr = after-node .before .before .before .before in let after-expect = after-expr .before .before
-    in let after-place-here = after-expect .before .before in let after-free-of = after-place-here .before .before in pair (room-left (left
-    (after-expect .expect .ensures .1 .0) plus (after-expr .expr .ensures .1 .0) less (after-node .node .ensures .1 .0)) refl) (λ src l. resultis-read
-    l _ _ (after-free-of .free-of .ensures .1) (after-place-here .place-here .ensures .1 src l) (after-expect .expect .ensures .1 .1 src l)
-    (after-expr .expr .ensures .1 .1 src l) (after-node .node .ensures .1 .1))
+    in let after-place-here = after-expect .before .before in let after-free-of = after-place-here .before .before in pair
+    (room-left (left (after-expect .expect .ensures .1 .0) plus (after-expr .expr .ensures .1 .0) less (after-node .node .ensures .1 .0)) refl)
+    (λ src l. resultis-read l _ _ (after-free-of .free-of .ensures .1) (after-place-here .place-here .ensures .1 src l) (after-expect .expect .ensures
+    .1 .1 src l) (after-expr .expr .ensures .1 .1 src l) (after-node .node .ensures .1 .1))
 
 pub give-ok : {M : Type 1} (t : ℕ) → cycle.Lts-give.Closed (claims-5 (give-cs t)) (at give-rank t) (give-rank .post) M
 give-ok t =
-    knowing (give-cs t) _ (cycle.Lts-give.spec (claims-5 (asked give-cs t)) (at give-rank t) (give-rank .post) (λ c κs. tt) (λ c κs. omega arith) (λ c
-    κs. omega arith) (λ c κs. omega (arith, c .before .expect)) (λ c κs. ready-leaves (c .before .before .before .expr .ensures .1 .0) (c .before
-    .before .before .expr .kept .0) refl (ready-leaves (c .before .before .before .before .before .expect .ensures .1 .0) refl refl (c .before .before
-    .before .before .before .expect .ensures .0 .0))) (λ c. search needs) (give-returns t))
+    knowing (give-cs t) _
+    (cycle.Lts-give.spec (claims-5 (asked give-cs t)) (at give-rank t) (give-rank .post) (λ c κs. tt) (λ c κs. omega arith) (λ c κs. omega arith)
+    (λ c κs. pair (omega arith) (pair (past-symbol refl (c .before .expect .ensures)) (omega arith)))
+    (λ c κs. ready-leaves (c .before .before .before .expr .ensures .1 .0) (c .before .before .before .expr .kept .0) refl (past-symbol refl (c
+    .before .before .before .before .before .expect .ensures))) (λ c. search needs) (give-returns t))
 
 abbrev bare-cs : ℕ → List Callee
 bare-cs t = free-of ∷ below expr-rank t ∷ kind-here ∷ goes-on-assignment ∷ below set-rank t ∷ is-call ∷ refuse ∷ []
@@ -315,35 +337,37 @@ bare-returns : (t : ℕ) → cycle.Lts-bare.Need-returns (claims-7 (asked bare-c
 bare-returns t c =
     let after-set = c .before .before in let after-if1 = after-set .before .before in let after-goes-on-assignment = after-if1 .before in let
     after-kind-here = after-goes-on-assignment .before in let after-expr = after-kind-here .before .before .before .before in let after-free-of =
-    after-expr .before .before in pair (room-left (left (after-expr .expr .ensures .1 .0) plus (after-set .set .ensures .1 .0)) refl) (λ src l. (let
-    l₁ = lies-still l (after-expr .expr .ensures .1 .0 .kept) in assignment-first src _ _ (after-kind-here .kind-here .ensures .1 src l₁) (after-expr
-    .expr .ensures .1 .1 src l) (after-free-of .free-of .ensures .1) (sym (after-goes-on-assignment .goes-on-assignment .ensures .1) ∙ after-if1 .if1
-    .taken) (after-set .set .ensures .1 .1 src l₁ .0) (λ e q. after-set .set .ensures .1 .1 src l₁ .1 e (ap (λ (z : ℕ). freeOf z (after-expr .expr
-    .result)) (after-expr .expr .kept .0) ∙ q))))
+    after-expr .before .before in pair (room-left (left (after-expr .expr .ensures .1 .0) plus (after-set .set .ensures .1 .0)) refl)
+    (λ src l. (let l₁ = lies-still l (after-expr .expr .ensures .1 .0 .kept) in assignment-first src _ _ (after-kind-here .kind-here .ensures .1 src
+    l₁) (after-expr .expr .ensures .1 .1 src l) (after-free-of .free-of .ensures .1) (sym (after-goes-on-assignment .goes-on-assignment .ensures .1) ∙
+    after-if1 .if1 .taken) (after-set .set .ensures .1 .1 src l₁ .0) (λ e q. after-set .set .ensures .1 .1 src l₁ .1 e (ap (λ (z : ℕ). freeOf z
+    (after-expr .expr .result)) (after-expr .expr .kept .0) ∙ q))))
 
 bare-returns-2 : (t : ℕ) → cycle.Lts-bare.Need-returns-2 (claims-7 (asked bare-cs t)) (at bare-rank t) (bare-rank .post)
 bare-returns-2 t c =
     let after-is-call = c .before in let after-if1 = after-is-call .before .before in let after-goes-on-assignment = after-if1 .before in let
-    after-kind-here = after-goes-on-assignment .before in let after-expr = after-kind-here .before .before .before .before in pair (after-expr .expr
-    .ensures .1 .0) (λ src l. (let l₁ = lies-still l (after-expr .expr .ensures .1 .0 .kept) in call-alone src 0 _ (after-kind-here .kind-here
-    .ensures .1 src l₁) (after-expr .expr .ensures .1 .1 src l) (after-is-call .is-call .ensures .1) (sym (after-goes-on-assignment
+    after-kind-here = after-goes-on-assignment .before in let after-expr = after-kind-here .before .before .before .before in pair
+    (after-expr .expr .ensures .1 .0) (λ src l. (let l₁ = lies-still l (after-expr .expr .ensures .1 .0 .kept) in call-alone src 0 _ (after-kind-here
+    .kind-here .ensures .1 src l₁) (after-expr .expr .ensures .1 .1 src l) (after-is-call .is-call .ensures .1) (sym (after-goes-on-assignment
     .goes-on-assignment .ensures .1) ∙ after-if1 .if1 .left) (c .if2 .taken)))
 
 bare-returns-3 : (t : ℕ) → cycle.Lts-bare.Need-returns-3 (claims-7 (asked bare-cs t)) (at bare-rank t) (bare-rank .post)
 bare-returns-3 t c =
     let after-if2 = c .before .before in let after-is-call = after-if2 .before in let after-if1 = after-is-call .before .before in let
     after-goes-on-assignment = after-if1 .before in let after-kind-here = after-goes-on-assignment .before in let after-expr = after-kind-here .before
-    .before .before .before in pair (room-left (left (after-expr .expr .ensures .1 .0) plus (c .refuse .ensures .1 .0)) refl) (λ src l. (let l₁ =
-    lies-still l (after-expr .expr .ensures .1 .0 .kept) in no-call src 0 _ (after-kind-here .kind-here .ensures .1 src l₁) (after-expr .expr .ensures
-    .1 .1 src l) (after-is-call .is-call .ensures .1) (sym (after-goes-on-assignment .goes-on-assignment .ensures .1) ∙ after-if1 .if1 .left)
-    (after-if2 .if2 .left) (c .refuse .ensures .1 .1) (refuses-on (c .refuse .ensures .1 .1))))
+    .before .before .before in pair (room-left (left (after-expr .expr .ensures .1 .0) plus (c .refuse .ensures .1 .0)) refl)
+    (λ src l. (let l₁ = lies-still l (after-expr .expr .ensures .1 .0 .kept) in no-call src 0 _ (after-kind-here .kind-here .ensures .1 src l₁)
+    (after-expr .expr .ensures .1 .1 src l) (after-is-call .is-call .ensures .1) (sym (after-goes-on-assignment .goes-on-assignment .ensures .1) ∙
+    after-if1 .if1 .left) (after-if2 .if2 .left) (c .refuse .ensures .1 .1) (refuses-on (c .refuse .ensures .1 .1))))
 
 pub bare-ok : {M : Type 1} (t : ℕ) → cycle.Lts-bare.Closed (claims-7 (bare-cs t)) (at bare-rank t) (bare-rank .post) M
 bare-ok t =
-    knowing (bare-cs t) _ (cycle.Lts-bare.spec (claims-7 (asked bare-cs t)) (at bare-rank t) (bare-rank .post) (λ c κs. tt) (λ c κs. omega arith) (λ c
-    κs. omega (arith, c .before .before .before .expr)) (λ c κs. tt) (λ c κs. omega (arith, c .before .before .before .kind-here)) (λ c. search needs)
-    (bare-returns t) (λ c κs. omega (arith, c .before .before .before .kind-here)) (λ c. search needs) (bare-returns-2 t) (λ c κs. omega (arith, c
-    .before .before .is-call)) (λ c. search needs) (bare-returns-3 t))
+    knowing (bare-cs t) _
+    (cycle.Lts-bare.spec (claims-7 (asked bare-cs t)) (at bare-rank t) (bare-rank .post) (λ c κs. tt) (λ c κs. omega arith)
+    (λ c κs. let e = c .before .before .before .expr in past-expression refl (e .ensures) (e .kept .0)) (λ c κs. tt)
+    (λ c κs. pair (omega arith) (c .before .before .before .kind-here .ensures .0)) (λ c. search needs) (bare-returns t)
+    (λ c κs. c .before .before .before .kind-here .ensures .0) (λ c. search needs) (bare-returns-2 t) (λ c κs. c .before .before .is-call .ensures .0)
+    (λ c. search needs) (bare-returns-3 t))
 
 abbrev set-cs : ℕ → List Callee
 set-cs t = free-of ∷ minus ∷ below also-rank t ∷ expect ∷ below arg-rank t ∷ below rest-rank t ∷ node ∷ []
@@ -354,26 +378,37 @@ set-returns t c =
     .before .before in let after-expect = after-arg .before .before in let after-minus2 = after-expect .before .before in let after-free-of2 =
     after-minus2 .before in let after-also = after-free-of2 .before .before .before .before in let after-minus = after-also .before .before in let
     after-free-of = after-minus .before in pair (room-left (left (after-also .also .ensures .1 .0) plus (after-expect .expect .ensures .1 .0) less
-    (after-arg .arg .ensures .1 .0) plus (after-rest .rest .ensures .1 .0) less (after-node .node .ensures .1 .0)) refl) (λ src l. let l₁ = lies-still
-    l (after-also .also .ensures .1 .0 .kept) in let l₂ = lies-still l₁ (after-arg .arg .ensures .1 .0 .kept) in pair (goes-on (after-also .also
-    .ensures .1 .1 src l) then goes-on (after-expect .expect .ensures .1 .1 src l₁) then goes-on (after-arg .arg .ensures .1 .1 src l₁) then goes-on
-    (after-rest .rest .ensures .1 .1 src l₂) then adds-on (after-node .node .ensures .1 .1)) (λ e q. assignment-read src _ _ _ e (l .count) q
-    (measured _ _ (after-minus .minus .ensures .1) (after-free-of .free-of .ensures .1) refl) (measured _ _ (after-minus2 .minus2 .ensures .1)
-    (after-free-of2 .free-of2 .ensures .1) (after-also .also .kept .0)) (after-also .also .ensures .1 .1 src l) (after-expect .expect .ensures .1 .1
-    src l₁) (after-arg .arg .ensures .1 .1 src l₁) (after-rest .rest .ensures .1 .1 src l₂) (after-node .node .ensures .1 .1)))
+    (after-arg .arg .ensures .1 .0) plus (after-rest .rest .ensures .1 .0) less (after-node .node .ensures .1 .0)) refl)
+    (λ src l. let l₁ = lies-still l (after-also .also .ensures .1 .0 .kept) in let l₂ = lies-still l₁ (after-arg .arg .ensures .1 .0 .kept) in pair
+    (goes-on (after-also .also .ensures .1 .1 src l) then goes-on (after-expect .expect .ensures .1 .1 src l₁) then goes-on (after-arg .arg .ensures
+    .1 .1 src l₁) then goes-on (after-rest .rest .ensures .1 .1 src l₂) then adds-on (after-node .node .ensures .1 .1)) (λ e q. assignment-read src _
+    _ _ e (l .count) q (measured _ _ (after-minus .minus .ensures .1) (after-free-of .free-of .ensures .1) refl) (measured _ _ (after-minus2 .minus2
+    .ensures .1) (after-free-of2 .free-of2 .ensures .1) (after-also .also .kept .0)) (after-also .also .ensures .1 .1 src l) (after-expect .expect
+    .ensures .1 .1 src l₁) (after-arg .arg .ensures .1 .1 src l₁) (after-rest .rest .ensures .1 .1 src l₂) (after-node .node .ensures .1 .1)))
 
 pub set-ok : {M : Type 1} (t : ℕ) → cycle.Lts-set.Closed (claims-7 (set-cs t)) (at set-rank t) (set-rank .post) M
 set-ok t =
-    knowing (set-cs t) _ (cycle.Lts-set.spec (claims-7 (asked set-cs t)) (at set-rank t) (set-rank .post) (λ c κs. tt) (λ c κs. tt) (λ c κs. omega
-    arith) (λ c κs. tt) (λ c κs. tt) (λ c κs. omega (arith, c .before .before .before .before .before .before .also)) (λ c κs. (omega arith,
-    ready-leaves (c .before .expect .ensures .1 .0) refl refl (c .before .expect .ensures .0 .0))) (λ c κs. (omega (arith, c .before .before .before
-    .before .before .before .before .before .before .before .before .before .before .before .before .before .before .before .pre .0), ready-takes (c
-    .before .before .before .arg .ensures .1 .0) (c .before .before .before .arg .kept .0) (ready-part (c .before .before .before .arg .ensures .0 .1)
-    refl))) (λ c. let also = c .before .before .before .before .before .before .before .before .before .before .before .before .before .before .before
-    .before in let minus = also .before .before in let free-of = minus .before in omega (arith, size-small _ (minus .minus .ensures .1) (free-of
-    .free-of .ensures .1) (also .also .ensures .0 .1))) (λ c. let expect = c .before .before .before .before .before .before .before .before .before
-    in let minus2 = expect .before .before in let free-of2 = minus2 .before in omega (arith, size-small _ (minus2 .minus2 .ensures .1) (free-of2
-    .free-of2 .ensures .1) (expect .expect .ensures .0 .0))) (λ c κs. let rest = c .before .before .before in let arg = rest .before .before .before
-    .before in let expect = arg .before .before in ready-leaves (rest .rest .ensures .1 .0) (rest .rest .kept .0) refl (ready-takes (arg .arg .ensures
-    .1 .0) (arg .arg .kept .0) (ready-leaves (expect .expect .ensures .1 .0) refl refl (expect .expect .ensures .0 .0)))) (λ c. search needs)
-    (set-returns t))
+    knowing (set-cs t) _
+    (cycle.Lts-set.spec (claims-7 (asked set-cs t)) (at set-rank t) (set-rank .post) (λ c κs. tt) (λ c κs. tt) (λ c κs. omega arith) (λ c κs. tt)
+    (λ c κs. tt)
+    (λ c κs. let e = c .before .before .before .before .before .before .also in pair (past-part refl (e .ensures) (e .kept .0)) (omega arith))
+    (λ c κs. pair (omega arith) (past-symbol refl (c .before .expect .ensures)))
+    (λ c κs. pair (omega (
+      arith,
+      c .before .before .before .before .before .before .before .before .before .before .before .before .before .before
+          .before .before .before .before .pre .0,
+    )) (ready-takes (c .before .before .before .arg .ensures .1 .0) (c .before .before .before .arg .kept .0)
+    (ready-part (c .before .before .before .arg .ensures .0 .1) refl)))
+    (λ c. let also = c .before .before .before .before .before .before .before .before .before .before .before .before .before .before .before .before
+    in let minus = also .before .before in let free-of = minus .before in omega (
+      arith,
+      size-small _ (minus .minus .ensures .1) (free-of .free-of
+          .ensures .1) (also .also .ensures .0 .1),
+    )) (λ c. let expect = c .before .before .before .before .before .before .before .before .before in let
+    minus2 = expect .before .before in let free-of2 = minus2 .before in omega (
+      arith,
+      size-small _ (minus2 .minus2 .ensures .1) (free-of2 .free-of2
+          .ensures .1) (expect .expect .ensures .0 .0),
+    )) (λ c κs. let rest = c .before .before .before in let arg = rest .before .before .before .before in
+    let expect = arg .before .before in ready-leaves (rest .rest .ensures .1 .0) (rest .rest .kept .0) refl (ready-takes (arg .arg .ensures .1 .0)
+    (arg .arg .kept .0) (past-symbol refl (expect .expect .ensures)))) (λ c. search needs) (set-returns t))

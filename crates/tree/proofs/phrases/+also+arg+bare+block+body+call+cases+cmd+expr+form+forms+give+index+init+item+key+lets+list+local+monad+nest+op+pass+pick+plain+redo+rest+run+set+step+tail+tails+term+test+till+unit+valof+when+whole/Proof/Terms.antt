@@ -1,4 +1,4 @@
--- Operands: primaries with their suffixes, arguments and lists of expressions. 
+-- Operands: primaries with their suffixes, arguments and lists of expressions.
 use Rattle.tree.proofs.phrases.+also+arg+bare+block+body+call+cases+cmd+expr+form+forms+give+index+init+item+key+lets+list+local+monad+nest+op+pass+pick+plain+redo+rest+run+set+step+tail+tails+term+test+till+unit+valof+when+whole as cycle
 use Rattle.language.specs.Tree as T
 use Rattle.language.specs.Expressions as E
@@ -18,7 +18,7 @@ use Rattle.tree.proofs.Lists.{Before}
 use Rattle.tree.proofs.Loops.{SoFar, before-first, before-last, wordless, so-begins, so-turns, so-ends, many-turns, many-ends, many-spent}
 use Rattle.tree.proofs.Readers.{bracketed-read, valof-read, argument-read, index-read, arguments-read, no-arguments, some-arguments}
 use Rattle.tree.proofs.Readers.{further-reads}
-use Rattle.tree.proofs.Rooms.{left, taken, room-left, room-taken, leaves-less, ready-leaves, ready-takes, _plus_, _less_, ready-part}
+use Rattle.tree.proofs.Rooms.{past-symbol, past-part, past-expression, left, taken, room-left, room-taken, leaves-less, ready-leaves, ready-takes, _plus_, _less_, ready-part}
 use Rattle.tree.proofs.Rooms.{item-low, size-small, measured}
 use Rattle.tree.proofs.Steps.{pair, again}
 use Rattle.tree.proofs.Symbols.{lies-still}
@@ -41,13 +41,14 @@ whole-returns t c =
     .before .before in let after-tail = after-tails .before .before .before .before in let after-place-of = after-tail .before .before in let
     after-minus = after-place-of .before .before in let after-free-of2 = after-minus .before in let after-if1 = after-free-of2 .before .before in let
     after-is-suffix = after-if1 .before in let after-kind-here = after-is-suffix .before in let after-unit = after-kind-here .before .before .before
-    .before in let after-free-of = after-unit .before .before in pair (room-left (left (after-unit .unit .ensures .1 .0) plus (after-tail .tail
-    .ensures .1 .0) plus (after-tails .tails .ensures .1 .0) less (after-node .node .ensures .1 .0)) refl) (λ src l. (let l₁ = lies-still l
-    (after-unit .unit .ensures .1 .0 .kept) in let l₂ = lies-still l₁ (after-tail .tail .ensures .1 .0 .kept) in suffixed-more l₁ _ _ (after-kind-here
-    .kind-here .ensures .1 src l₁) (after-unit .unit .ensures .1 .1 src l) (sym (after-is-suffix .is-suffix .ensures .1) ∙ after-if1 .if1 .taken)
-    (after-free-of .free-of .ensures .1) (measured _ _ (after-minus .minus .ensures .1) (after-free-of2 .free-of2 .ensures .1) (after-unit .unit .kept
-    .0)) (after-place-of .place-of .ensures .1) (after-suffixed-kind .suffixed-kind .ensures .1) (after-tail .tail .ensures .1 .1 src l₁
-    (after-kind-here .kind-here .ensures .1 src l₁)) (after-tails .tails .ensures .1 .1 src l₂) (after-node .node .ensures .1 .1)))
+    .before in let after-free-of = after-unit .before .before in pair
+    (room-left (left (after-unit .unit .ensures .1 .0) plus (after-tail .tail .ensures .1 .0) plus (after-tails .tails .ensures .1 .0) less
+    (after-node .node .ensures .1 .0)) refl) (λ src l. (let l₁ = lies-still l (after-unit .unit .ensures .1 .0 .kept) in let l₂ = lies-still l₁
+    (after-tail .tail .ensures .1 .0 .kept) in suffixed-more l₁ _ _ (after-kind-here .kind-here .ensures .1 src l₁) (after-unit .unit .ensures .1 .1
+    src l) (sym (after-is-suffix .is-suffix .ensures .1) ∙ after-if1 .if1 .taken) (after-free-of .free-of .ensures .1) (measured _ _ (after-minus
+    .minus .ensures .1) (after-free-of2 .free-of2 .ensures .1) (after-unit .unit .kept .0)) (after-place-of .place-of .ensures .1)
+    (after-suffixed-kind .suffixed-kind .ensures .1) (after-tail .tail .ensures .1 .1 src l₁ (after-kind-here .kind-here .ensures .1 src l₁))
+    (after-tails .tails .ensures .1 .1 src l₂) (after-node .node .ensures .1 .1)))
 
 whole-returns-2 : (t : ℕ) → cycle.Lts-whole.Need-returns-2 (claims-10 (asked whole-cs t)) (at whole-rank t) (whole-rank .post)
 whole-returns-2 t c =
@@ -58,18 +59,26 @@ whole-returns-2 t c =
 
 pub whole-ok : {M : Type 1} (t : ℕ) → cycle.Lts-whole.Closed (claims-10 (whole-cs t)) (at whole-rank t) (whole-rank .post) M
 whole-ok t =
-    knowing (whole-cs t) _ (cycle.Lts-whole.spec (claims-10 (asked whole-cs t)) (at whole-rank t) (whole-rank .post) (λ c κs. tt) (λ c κs. omega
-    arith) (λ c κs. omega (arith, c .before .before .before .unit)) (λ c κs. tt) (λ c κs. tt) (λ c κs. tt) (λ c κs. omega (arith, c .before .before
-    .before .before .before .before .kind-here)) (λ c κs. omega (arith, c .before .place-of)) (λ c κs. omega (arith, c .before .before .before .before
-    .before .before .before .before .before .before .before .before .before .before .before .before .before .before .before .before .before .pre .0, c
-    .before .before .before .tail)) (λ c. let place-of = c .before .before .before .before .before .before .before .before .before in let minus =
-    place-of .before .before in let free-of2 = minus .before in omega (arith, size-small _ (minus .minus .ensures .1) (free-of2 .free-of2 .ensures .1)
-    (place-of .place-of .ensures .0))) (λ c κs. tt) (λ c κs. ready-leaves (c .before .before .before .before .tails .ensures .1 .0) (c .before .before
+    knowing (whole-cs t) _
+    (cycle.Lts-whole.spec (claims-10 (asked whole-cs t)) (at whole-rank t) (whole-rank .post) (λ c κs. tt) (λ c κs. omega arith)
+    (λ c κs. let e = c .before .before .before .unit in past-part refl (e .ensures) (e .kept .0)) (λ c κs. tt) (λ c κs. tt) (λ c κs. tt)
+    (λ c κs. c .before .before .before .before .before .before .kind-here .ensures .0) (λ c κs. pair (omega arith) (c .before .place-of .ensures .0))
+    (λ c κs. pair (omega (
+      arith,
+      c .before .before .before .before .before .before .before .before .before .before .before .before .before .before
+          .before .before .before .before .before .before .before .pre .0,
+    )) (past-part refl (c .before .before .before .tail .ensures) (c .before .before
+    .before .tail .kept .0))) (λ c. let place-of = c .before .before .before .before .before .before .before .before .before in let minus = place-of
+    .before .before in let free-of2 = minus .before in omega (
+      arith,
+      size-small _ (minus .minus .ensures .1) (free-of2 .free-of2 .ensures .1)
+          (place-of .place-of .ensures .0),
+    )) (λ c κs. tt) (λ c κs. ready-leaves (c .before .before .before .before .tails .ensures .1 .0) (c .before .before
     .before .before .tails .kept .0) refl (ready-leaves (c .before .before .before .before .before .before .before .before .tail .ensures .1 .0) (c
     .before .before .before .before .before .before .before .before .tail .kept .0) refl (c .before .before .before .before .before .before .before
     .before .tail .ensures .0 .1))) (λ c. let node = c .before .before in let tails = node .before .before .before .before .before in let tail = tails
     .before .before .before .before in let unit = tail .before .before .before .before .before .before .before .before .before .before .before .before
-    .before in omega (arith, node .node .kept, tails .tails .kept, tail .tail .kept, unit .unit .kept)) (whole-returns t) (λ c. search needs)
+    .before in node .node .kept .0 ∙ tails .tails .kept .0 ∙ tail .tail .kept .0 ∙ unit .unit .kept .0) (whole-returns t) (λ c. search needs)
     (whole-returns-2 t))
 
 abbrev unit-cs : ℕ → List Callee
@@ -77,12 +86,12 @@ unit-cs t = kind-here ∷ below nest-rank t ∷ below valof-rank t ∷ atom ∷ 
 
 pub unit-ok : {M : Type 1} (t : ℕ) → cycle.Lts-unit.Closed (claims-4 (unit-cs t)) (at unit-rank t) (unit-rank .post) M
 unit-ok t =
-    knowing (unit-cs t) _ (cycle.Lts-unit.spec (claims-4 (asked unit-cs t)) (at unit-rank t) (unit-rank .post) (λ c κs. omega arith) (λ c κs. omega
-    arith) (λ c κs. omega arith) (λ c κs. omega arith) (λ c. search needs) (λ c. primary-bracketed _ (c .before .before .before .before .before
-    .kind-here .ensures .1) (c .before .before .before .before .match .keys1) (c .before .before .nest .ensures .1)) (λ c. search needs) (λ c.
-    primary-valof _ (c .before .before .before .before .before .kind-here .ensures .1) (c .before .before .before .before .match .keys2) (c .before
-    .before .valof .ensures .1)) (λ c. search needs) (λ c. primary-atom _ (c .before .before .before .before .before .kind-here .ensures .1) (c
-    .before .before .before .before .match .rest) (c .before .before .atom .ensures .1)))
+    cycle.Lts-unit.spec (claims-4 (unit-cs t)) (at unit-rank t) (unit-rank .post) (λ c κs. omega arith) (λ c κs. omega arith) (λ c κs. omega arith)
+    (λ c κs. omega arith) (λ c. search needs) (λ c. primary-bracketed _ (c .before .before .before .before .before .kind-here .ensures) (c .before
+    .before .before .before .match .keys1) (c .before .before .nest .ensures)) (λ c. search needs)
+    (λ c. primary-valof _ (c .before .before .before .before .before .kind-here .ensures) (c .before .before .before .before .match .keys2) (c .before
+    .before .valof .ensures)) (λ c. search needs) (λ c. primary-atom _ (c .before .before .before .before .before .kind-here .ensures) (c .before
+    .before .before .before .match .rest) (c .before .before .atom .ensures))
 
 abbrev nest-cs : ℕ → List Callee
 nest-cs t = refuse ∷ free-of ∷ place-here ∷ expect ∷ below expr-rank t ∷ node ∷ []
@@ -91,18 +100,20 @@ nest-returns-2 : (t : ℕ) → cycle.Lts-nest.Need-returns-2 (claims-6 (asked ne
 nest-returns-2 t c =
     let after-node = c .before .before in let after-expect2 = after-node .before .before in let after-expr = after-expect2 .before .before .before
     .before in let after-expect = after-expr .before .before in let after-place-here = after-expect .before .before in let after-free-of =
-    after-place-here .before .before in let after-if1 = after-free-of .before .before in pair (room-left (left (after-expect .expect .ensures .1 .0)
-    plus (after-expr .expr .ensures .1 .0) plus (after-expect2 .expect2 .ensures .1 .0) less (after-node .node .ensures .1 .0)) refl) (λ src l.
-    bracketed-read l _ _ (after-free-of .free-of .ensures .1) (after-place-here .place-here .ensures .1 src l) (after-if1 .if1 .left) (after-expect
-    .expect .ensures .1 .1 src l) (after-expr .expr .ensures .1 .1 src l) (after-expect2 .expect2 .ensures .1 .1 src (lies-still l (after-expr .expr
-    .ensures .1 .0 .kept))) (after-node .node .ensures .1 .1))
+    after-place-here .before .before in let after-if1 = after-free-of .before .before in pair
+    (room-left (left (after-expect .expect .ensures .1 .0) plus (after-expr .expr .ensures .1 .0) plus (after-expect2 .expect2 .ensures .1 .0) less
+    (after-node .node .ensures .1 .0)) refl) (λ src l. bracketed-read l _ _ (after-free-of .free-of .ensures .1) (after-place-here .place-here
+    .ensures .1 src l) (after-if1 .if1 .left) (after-expect .expect .ensures .1 .1 src l) (after-expr .expr .ensures .1 .1 src l) (after-expect2
+    .expect2 .ensures .1 .1 src (lies-still l (after-expr .expr .ensures .1 .0 .kept))) (after-node .node .ensures .1 .1))
 
 pub nest-ok : {M : Type 1} (t : ℕ) → cycle.Lts-nest.Closed (claims-6 (nest-cs t)) (at nest-rank t) (nest-rank .post) M
 nest-ok t =
-    knowing (nest-cs t) _ (cycle.Lts-nest.spec (claims-6 (asked nest-cs t)) (at nest-rank t) (nest-rank .post) (λ c κs. omega arith) (λ c. search
-    needs) (λ c. bracketed-shut _ (c .before .before .if1 .taken) (c .refuse .ensures .1)) (λ c κs. tt) (λ c κs. omega arith) (λ c κs. omega arith) (λ
-    c. omega arith) (λ c κs. omega (arith, c .before .expect)) (λ c κs. omega (arith, c .before .before .before .expr)) (λ c κs. ready-leaves (c
-    .before .expect2 .ensures .1 .0) refl refl (c .before .expect2 .ensures .0 .0)) (λ c. search needs) (nest-returns-2 t))
+    knowing (nest-cs t) _
+    (cycle.Lts-nest.spec (claims-6 (asked nest-cs t)) (at nest-rank t) (nest-rank .post) (λ c κs. omega arith) (λ c. search needs)
+    (λ c. bracketed-shut _ (c .before .before .if1 .taken) (c .refuse .ensures .1)) (λ c κs. tt) (λ c κs. omega arith) (λ c κs. omega arith)
+    (λ c. omega arith) (λ c κs. pair (omega arith) (pair (past-symbol refl (c .before .expect .ensures)) (omega arith)))
+    (λ c κs. let e = c .before .before .before .expr in pair (past-expression refl (e .ensures) (e .kept .0)) (omega arith))
+    (λ c κs. past-symbol refl (c .before .expect2 .ensures)) (λ c. search needs) (nest-returns-2 t))
 
 abbrev valof-cs : ℕ → List Callee
 valof-cs t = refuse ∷ free-of ∷ place-here ∷ expect ∷ below cmd-rank t ∷ node ∷ []
@@ -111,58 +122,62 @@ valof-returns-2 : (t : ℕ) → cycle.Lts-valof.Need-returns-2 (claims-6 (asked 
 valof-returns-2 t c =
     let after-node = c .before .before in let after-cmd = after-node .before .before .before .before in let after-expect = after-cmd .before .before
     in let after-place-here = after-expect .before .before in let after-free-of = after-place-here .before .before in let after-if1 = after-free-of
-    .before .before in pair (room-left (left (after-expect .expect .ensures .1 .0) plus (after-cmd .cmd .ensures .1 .0) less (after-node .node
-    .ensures .1 .0)) refl) (λ src l. valof-read l _ _ (after-free-of .free-of .ensures .1) (after-place-here .place-here .ensures .1 src l) (after-if1
-    .if1 .left) (after-expect .expect .ensures .1 .1 src l) (after-cmd .cmd .ensures .1 .1 src l) (after-node .node .ensures .1 .1))
+    .before .before in pair
+    (room-left (left (after-expect .expect .ensures .1 .0) plus (after-cmd .cmd .ensures .1 .0) less (after-node .node .ensures .1 .0)) refl)
+    (λ src l. valof-read l _ _ (after-free-of .free-of .ensures .1) (after-place-here .place-here .ensures .1 src l) (after-if1 .if1 .left)
+    (after-expect .expect .ensures .1 .1 src l) (after-cmd .cmd .ensures .1 .1 src l) (after-node .node .ensures .1 .1))
 
 pub valof-ok : {M : Type 1} (t : ℕ) → cycle.Lts-valof.Closed (claims-6 (valof-cs t)) (at valof-rank t) (valof-rank .post) M
 valof-ok t =
-    knowing (valof-cs t) _ (cycle.Lts-valof.spec (claims-6 (asked valof-cs t)) (at valof-rank t) (valof-rank .post) (λ c κs. omega arith) (λ c. search
-    needs) (λ c. valof-shut _ (c .before .before .if1 .taken) (c .refuse .ensures .1)) (λ c κs. tt) (λ c κs. omega arith) (λ c κs. omega arith) (λ c.
-    omega arith) (λ c κs. omega (arith, c .before .expect)) (λ c κs. ready-leaves (c .before .before .before .cmd .ensures .1 .0) (c .before .before
-    .before .cmd .kept .0) refl (ready-leaves (c .before .before .before .before .before .expect .ensures .1 .0) refl refl (c .before .before .before
-    .before .before .expect .ensures .0 .0))) (λ c. search needs) (valof-returns-2 t))
+    knowing (valof-cs t) _
+    (cycle.Lts-valof.spec (claims-6 (asked valof-cs t)) (at valof-rank t) (valof-rank .post) (λ c κs. omega arith) (λ c. search needs)
+    (λ c. valof-shut _ (c .before .before .if1 .taken) (c .refuse .ensures .1)) (λ c κs. tt) (λ c κs. omega arith) (λ c κs. omega arith)
+    (λ c. omega arith) (λ c κs. pair (omega arith) (past-symbol refl (c .before .expect .ensures)))
+    (λ c κs. ready-leaves (c .before .before .before .cmd .ensures .1 .0) (c .before .before .before .cmd .kept .0) refl (past-symbol refl (c .before
+    .before .before .before .before .expect .ensures))) (λ c. search needs) (valof-returns-2 t))
 
 abbrev tail-cs : ℕ → List Callee
 tail-cs t = below call-rank t ∷ below index-rank t ∷ []
 
 pub tail-ok : {M : Type 1} (t : ℕ) → cycle.Lts-tail.Closed (claims-2 (tail-cs t)) (at tail-rank t) (tail-rank .post) M
 tail-ok t =
-    knowing (tail-cs t) _ (cycle.Lts-tail.spec (claims-2 (asked tail-cs t)) (at tail-rank t) (tail-rank .post) (λ c κs. omega arith) (λ c κs. omega
-    arith) (λ c. search needs) (λ c. suffix-arguments _ (c .before .before .before .before .if1 .taken) (c .before .before .call .ensures .1)) (λ c.
-    search needs) (λ c. suffix-index _ (c .before .before .before .before .if1 .left) (c .before .before .index .ensures .1)))
+    cycle.Lts-tail.spec (claims-2 (tail-cs t)) (at tail-rank t) (tail-rank .post) (λ c κs. omega arith) (λ c κs. omega arith) (λ c. search needs)
+    (λ c. suffix-arguments _ (c .before .before .before .before .if1 .taken) (c .before .before .call .ensures)) (λ c. search needs)
+    (λ c. suffix-index _ (c .before .before .before .before .if1 .left) (c .before .before .index .ensures))
 
 abbrev tails-cs : ℕ → List Callee
 tails-cs t = minus ∷ kind-here ∷ is-suffix ∷ below tail-rank t ∷ []
 
 abbrev tails-inv : cycle.Lts-tails.InvT-loop
 tails-inv s₀ n levels first turns₀ call₀ a₀ s turns call a =
-    SoFar (EndedSoFar call₀ call) (manyUpTo turns₀ T.noSuffixes isSuffix (E.suffix (within levels))) (manyUpTo turns T.noSuffixes isSuffix (E.suffix
-    (within levels))) s₀ s n a₀ a
+    SoFar (EndedSoFar call₀ call) (manyUpTo turns₀ T.noSuffixes isSuffix (E.suffix (within levels)))
+    (manyUpTo turns T.noSuffixes isSuffix (E.suffix (within levels))) s₀ s n a₀ a
 
 abbrev tails-turns : cycle.Lts-tails.MeasureT-loop
 tails-turns s₀ n levels first turns₀ call₀ a₀ s turns call a = turns
 
-tails-loop-again : (t : ℕ) → cycle.Lts-tails.Need-loop-again (claims-4 (asked tails-cs t)) (at tails-rank t) (tails-rank .post) tails-inv tails-turns
+tails-loop-again : (t : ℕ) → cycle.Lts-tails.Need-loop-again (claims-4 (tails-cs t)) (at tails-rank t) (tails-rank .post) tails-inv tails-turns
 tails-loop-again t c =
     let after-tail = c .before .before in let after-if1 = after-tail .before .before in let after-is-suffix = after-if1 .before in let after-kind-here
     = after-is-suffix .before in let in-loop = after-kind-here .before .before .before in many-turns _ _ _ _ suffix-next (in-loop .loop .inv)
-    (after-kind-here .kind-here .ensures .1) (sym (after-is-suffix .is-suffix .ensures .1) ∙ after-if1 .if1 .taken) (after-tail .tail .ensures .1)
+    (after-kind-here .kind-here .ensures) (sym (after-is-suffix .is-suffix .ensures) ∙ after-if1 .if1 .taken) (after-tail .tail .ensures)
     (after-tail .tail .kept .0) (omega arith)
 
-tails-returns : (t : ℕ) → cycle.Lts-tails.Need-returns (claims-4 (asked tails-cs t)) (at tails-rank t) (tails-rank .post) tails-inv tails-turns
+tails-returns : (t : ℕ) → cycle.Lts-tails.Need-returns (claims-4 (tails-cs t)) (at tails-rank t) (tails-rank .post) tails-inv tails-turns
 tails-returns t c =
     let after-is-suffix = c .before in let after-kind-here = after-is-suffix .before in let in-loop = after-kind-here .before .before .before in let
-    after-minus = in-loop .before in many-ends _ _ _ _ suffix-last no-suffix-ended (after-minus .minus .ensures .1) (in-loop .loop .inv)
-    (after-kind-here .kind-here .ensures .1) (sym (after-is-suffix .is-suffix .ensures .1) ∙ c .if1 .left)
+    after-minus = in-loop .before in many-ends _ _ _ _ suffix-last no-suffix-ended (after-minus .minus .ensures) (in-loop .loop .inv)
+    (after-kind-here .kind-here .ensures) (sym (after-is-suffix .is-suffix .ensures) ∙ c .if1 .left)
 
 pub tails-ok : {M : Type 1} (t : ℕ) → cycle.Lts-tails.Closed (claims-4 (tails-cs t)) (at tails-rank t) (tails-rank .post) M
 tails-ok t =
-    knowing (tails-cs t) _ (cycle.Lts-tails.spec (claims-4 (asked tails-cs t)) (at tails-rank t) (tails-rank .post) tails-inv tails-turns (λ c κs. tt)
-    (λ c. so-begins (c .before .before .pre .1) suffix-first) (λ c κs. omega (arith, c .before .before .loop, c .before .before .before .before
-    .before .pre)) (λ c κs. tt) (λ c κs. omega (arith, c .before .before .before .kind-here)) (λ c. omega arith) (λ c. omega arith) (tails-loop-again
-    t) (λ c. search needs) (tails-returns t) (λ c. search needs) (λ c. many-spent _ _ _ _ suffix-last no-suffix-ended (c .before .before .minus
-    .ensures .1) (c .before .loop .inv) (omega arith)))
+    cycle.Lts-tails.spec (claims-4 (tails-cs t)) (at tails-rank t) (tails-rank .post) tails-inv tails-turns (λ c κs. tt)
+    (λ c. so-begins (c .before .before .pre .1) suffix-first)
+    (λ c κs. ready-leaves (c .before .before .loop .inv .room) (c .before .before .loop .inv .same) refl (c .before .before .before .before .before
+    .pre .1)) (λ c κs. tt) (λ c κs. pair (omega arith) (ready-leaves (c .before .before .before .before .before .before .loop .inv .room) (c .before
+    .before .before .before .before .before .loop .inv .same) refl (c .before .before .before .before .before .before .before .before .before .pre
+    .1))) (λ c. omega arith) (λ c. omega arith) (tails-loop-again t) (λ c. search needs) (tails-returns t) (λ c. search needs)
+    (λ c. many-spent _ _ _ _ suffix-last no-suffix-ended (c .before .before .minus .ensures) (c .before .loop .inv) (omega arith))
 
 abbrev call-cs : ℕ → List Callee
 call-cs t = refuse ∷ free-of ∷ expect ∷ below pass-rank t ∷ close-item ∷ []
@@ -170,18 +185,19 @@ call-cs t = refuse ∷ free-of ∷ expect ∷ below pass-rank t ∷ close-item �
 call-returns-2 : (t : ℕ) → cycle.Lts-call.Need-returns-2 (claims-5 (asked call-cs t)) (at call-rank t) (call-rank .post)
 call-returns-2 t c =
     let after-close-item = c .before .before in let after-pass = after-close-item .before .before .before .before in let after-expect = after-pass
-    .before .before in let after-free-of = after-expect .before .before in let after-if1 = after-free-of .before .before in pair (room-left (left
-    (after-expect .expect .ensures .1 .0) plus (after-pass .pass .ensures .1 .0) less (after-close-item .close-item .ensures .1 .0)) refl) (λ src l.
-    arguments-read src _ _ (after-free-of .free-of .ensures .1) (after-if1 .if1 .left) (after-expect .expect .ensures .1 .1 src l) (after-pass .pass
-    .ensures .1 .1 src l) (after-close-item .close-item .ensures .1 .1))
+    .before .before in let after-free-of = after-expect .before .before in let after-if1 = after-free-of .before .before in pair
+    (room-left (left (after-expect .expect .ensures .1 .0) plus (after-pass .pass .ensures .1 .0) less (after-close-item .close-item .ensures .1 .0))
+    refl) (λ src l. arguments-read src _ _ (after-free-of .free-of .ensures .1) (after-if1 .if1 .left) (after-expect .expect .ensures .1 .1 src l)
+    (after-pass .pass .ensures .1 .1 src l) (after-close-item .close-item .ensures .1 .1))
 
 pub call-ok : {M : Type 1} (t : ℕ) → cycle.Lts-call.Closed (claims-5 (call-cs t)) (at call-rank t) (call-rank .post) M
 call-ok t =
-    knowing (call-cs t) _ (cycle.Lts-call.spec (claims-5 (asked call-cs t)) (at call-rank t) (call-rank .post) (λ c κs. omega arith) (λ c. search
-    needs) (λ c. arguments-shut _ (c .before .before .if1 .taken) (c .refuse .ensures .1)) (λ c κs. tt) (λ c κs. omega arith) (λ c. omega arith) (λ c
-    κs. (omega arith, ready-leaves (c .before .expect .ensures .1 .0) refl refl (c .before .expect .ensures .0 .0))) (λ c κs. ready-leaves (c .before
-    .before .before .pass .ensures .1 .0) (c .before .before .before .pass .kept .0) refl (ready-part (c .before .before .before .pass .ensures .0 .1)
-    refl)) (λ c. search needs) (call-returns-2 t))
+    knowing (call-cs t) _
+    (cycle.Lts-call.spec (claims-5 (asked call-cs t)) (at call-rank t) (call-rank .post) (λ c κs. omega arith) (λ c. search needs)
+    (λ c. arguments-shut _ (c .before .before .if1 .taken) (c .refuse .ensures .1)) (λ c κs. tt) (λ c κs. omega arith) (λ c. omega arith)
+    (λ c κs. pair (omega arith) (past-symbol refl (c .before .expect .ensures)))
+    (λ c κs. ready-leaves (c .before .before .before .pass .ensures .1 .0) (c .before .before .before .pass .kept .0) refl (ready-part (c .before
+    .before .before .pass .ensures .0 .1) refl)) (λ c. search needs) (call-returns-2 t))
 
 abbrev pass-cs : ℕ → List Callee
 pass-cs t = kind-here ∷ expect ∷ below arg-rank t ∷ below also-rank t ∷ []
@@ -189,19 +205,26 @@ pass-cs t = kind-here ∷ expect ∷ below arg-rank t ∷ below also-rank t ∷ 
 pass-returns-2 : (t : ℕ) → cycle.Lts-pass.Need-returns-2 (claims-4 (asked pass-cs t)) (at pass-rank t) (pass-rank .post)
 pass-returns-2 t c =
     let after-also = c .before .before .before .before in let after-arg = after-also .before .before .before .before in let after-if1 = after-arg
-    .before .before in let after-kind-here = after-if1 .before in pair (room-left (taken (after-arg .arg .ensures .1 .0) plus (after-also .also
-    .ensures .1 .0) plus (c .expect2 .ensures .1 .0)) refl) (λ src l. (let l₁ = lies-still l (after-arg .arg .ensures .1 .0 .kept) in let l₂ =
-    lies-still l₁ (after-also .also .ensures .1 .0 .kept) in some-arguments src _ (after-kind-here .kind-here .ensures .1 src l) 0 (l .count)
-    (after-if1 .if1 .left) (after-arg .arg .ensures .1 .1 src l) (again (Encodes encodeExpressions) (λ es w h. record { same = h .same }) (after-also
-    .also .ensures .1 .1 src l₁)) (c .expect2 .ensures .1 .1 src l₂)))
+    .before .before in let after-kind-here = after-if1 .before in pair
+    (room-left (taken (after-arg .arg .ensures .1 .0) plus (after-also .also .ensures .1 .0) plus (c .expect2 .ensures .1 .0)) refl)
+    (λ src l. (let l₁ = lies-still l (after-arg .arg .ensures .1 .0 .kept) in let l₂ = lies-still l₁ (after-also .also .ensures .1 .0 .kept) in
+    some-arguments src _ (after-kind-here .kind-here .ensures .1 src l) 0 (l .count) (after-if1 .if1 .left) (after-arg .arg .ensures .1 .1 src l)
+    (again (Encodes encodeExpressions) (λ es w h. record { same = h .same }) (after-also .also .ensures .1 .1 src l₁)) (c .expect2 .ensures .1 .1 src
+    l₂)))
 
 pub pass-ok : {M : Type 1} (t : ℕ) → cycle.Lts-pass.Closed (claims-4 (pass-cs t)) (at pass-rank t) (pass-rank .post) M
 pass-ok t =
-    knowing (pass-cs t) _ (cycle.Lts-pass.spec (claims-4 (asked pass-cs t)) (at pass-rank t) (pass-rank .post) (λ c κs. omega arith) (λ c κs. omega
-    arith) (λ c. search needs) (λ c. ( leaves-less (c .expect .ensures .1 .0) refl, λ src l. no-arguments src _ (c .before .before .before .kind-here
-    .ensures .1 src l) (c .before .before .if1 .taken) (c .expect .ensures .1 .1 src l), )) (λ c κs. omega arith) (λ c κs. (omega arith, ready-takes
-    (c .before .before .before .arg .ensures .1 .0) (c .before .before .before .arg .kept .0) (ready-part (c .before .before .before .arg .ensures .0
-    .1) refl))) (λ c κs. omega (arith, c .before .before .before .also)) (λ c. search needs) (pass-returns-2 t))
+    knowing (pass-cs t) _
+    (cycle.Lts-pass.spec (claims-4 (asked pass-cs t)) (at pass-rank t) (pass-rank .post) (λ c κs. omega arith) (λ c κs. omega arith)
+    (λ c. search needs) (λ c. (
+      leaves-less (c .expect .ensures .1 .0) refl,
+      λ src l. no-arguments src _ (c .before .before .before .kind-here
+          .ensures .1 src l) (c .before .before .if1 .taken) (c .expect .ensures .1 .1 src l),
+    )) (λ c κs. omega arith)
+    (λ c κs. pair (omega arith) (ready-takes (c .before .before .before .arg .ensures .1 .0) (c .before .before .before .arg .kept .0) (ready-part (c
+    .before .before .before .arg .ensures .0 .1) refl)))
+    (λ c κs. let e = c .before .before .before .also in pair (past-part refl (e .ensures) (e .kept .0)) (omega arith)) (λ c. search needs)
+    (pass-returns-2 t))
 
 abbrev arg-cs : ℕ → List Callee
 arg-cs t = free-of ∷ begin-item ∷ below expr-rank t ∷ set-size ∷ []
@@ -217,11 +240,13 @@ arg-returns t c =
 
 pub arg-ok : {M : Type 1} (t : ℕ) → cycle.Lts-arg.Closed (claims-4 (arg-cs t)) (at arg-rank t) (arg-rank .post) M
 arg-ok t =
-    knowing (arg-cs t) _ (cycle.Lts-arg.spec (claims-4 (asked arg-cs t)) (at arg-rank t) (arg-rank .post) (λ c κs. tt) (λ c κs. omega arith) (λ c κs.
-    (omega arith, (ready-takes (c .before .before .before .begin-item .ensures .1 .0) (c .before .before .before .begin-item .kept .0) (c .before
-    .before .before .begin-item .ensures .0), omega arith))) (λ c κs. let expr = c .before .before .before in let begin-item = expr .before .before
-    .before .before in let free-of = begin-item .before .before in (omega (arith, expr .expr), item-low (free-of .free-of .ensures .1) (ready-part
-    (begin-item .begin-item .ensures .0) refl))) (λ c. search needs) (arg-returns t))
+    knowing (arg-cs t) _
+    (cycle.Lts-arg.spec (claims-4 (asked arg-cs t)) (at arg-rank t) (arg-rank .post) (λ c κs. tt) (λ c κs. omega arith)
+    (λ c κs. pair (omega arith) (pair (ready-takes (c .before .before .before .begin-item .ensures .1 .0) (c .before .before .before .begin-item .kept
+    .0) (c .before .before .before .begin-item .ensures .0)) (omega arith)))
+    (λ c κs. let expr = c .before .before .before in let begin-item = expr .before .before .before .before in let free-of = begin-item .before .before
+    in pair (past-expression refl (expr .expr .ensures) (expr .expr .kept .0)) (item-low (free-of .free-of .ensures .1) (ready-part (begin-item
+    .begin-item .ensures .0) refl))) (λ c. search needs) (arg-returns t))
 
 abbrev also-cs : ℕ → List Callee
 also-cs t = kind-here ∷ expect ∷ below arg-rank t ∷ []
@@ -237,18 +262,22 @@ also-turns s₀ n levels turns₀ count₀ a₀ s turns count a = turns
 also-loop-again : (t : ℕ) → cycle.Lts-also.Need-loop-again (claims-3 (asked also-cs t)) (at also-rank t) (also-rank .post) also-inv also-turns
 also-loop-again t c =
     let after-arg = c .before .before in let after-expect = after-arg .before .before in let after-if1 = after-expect .before .before in let
-    after-kind-here = after-if1 .before in let in-loop = after-kind-here .before .before .before in pair (many-turns _ _ _ _ expression-next (in-loop
-    .loop .inv .0) (after-kind-here .kind-here .ensures .1) (eq-eqb _ _ (after-if1 .if1 .left)) (at-any (further-reads _ (after-expect .expect
-    .ensures .1) (after-arg .arg .ensures .1))) (after-arg .arg .kept .0) (omega arith)) (omega (arith, in-loop .loop .inv .1))
+    after-kind-here = after-if1 .before in let in-loop = after-kind-here .before .before .before in pair
+    (many-turns _ _ _ _ expression-next (in-loop .loop .inv .0) (after-kind-here .kind-here .ensures .1) (eq-eqb _ _ (after-if1 .if1 .left)) (at-any
+    (further-reads _ (after-expect .expect .ensures .1) (after-arg .arg .ensures .1))) (after-arg .arg .kept .0) (omega arith))
+    (omega (arith, in-loop .loop .inv .1))
 
 pub also-ok : {M : Type 1} (t : ℕ) → cycle.Lts-also.Closed (claims-3 (also-cs t)) (at also-rank t) (also-rank .post) M
 also-ok t =
-    knowing (also-cs t) _ (cycle.Lts-also.spec (claims-3 (asked also-cs t)) (at also-rank t) (also-rank .post) also-inv also-turns (λ c. (so-begins (c
-    .before .pre .1) expression-first, refl)) (λ c κs. omega (arith, c .before .before .loop, c .before .before .before .before .pre)) (λ c. search
-    needs) (λ c. many-ends _ _ _ _ expression-last no-expression-counted refl (c .before .before .before .before .loop .inv .0) (c .before .kind-here
-    .ensures .1) (ne-eqb _ _ (c .if1 .taken))) (λ c κs. omega (arith, c .before .before .kind-here)) (λ c κs. (omega arith, ready-leaves (c .before
-    .expect .ensures .1 .0) refl refl (c .before .expect .ensures .0 .0))) (λ c. omega arith) (λ c. omega arith) (λ c. omega arith) (also-loop-again
-    t) (λ c. search needs) (λ c. many-spent _ _ _ _ expression-last no-expression-counted refl (c .before .loop .inv .0) (omega arith)))
+    knowing (also-cs t) _
+    (cycle.Lts-also.spec (claims-3 (asked also-cs t)) (at also-rank t) (also-rank .post) also-inv also-turns
+    (λ c. (so-begins (c .before .pre .1) expression-first, refl))
+    (λ c κs. ready-leaves (c .before .before .loop .inv .0 .room) (c .before .before .loop .inv .0 .same) refl (c .before .before .before .before .pre
+    .1)) (λ c. search needs) (λ c. many-ends _ _ _ _ expression-last no-expression-counted refl (c .before .before .before .before .loop .inv .0) (c
+    .before .kind-here .ensures .1) (ne-eqb _ _ (c .if1 .taken))) (λ c κs. pair (c .before .before .kind-here .ensures .0) (omega arith))
+    (λ c κs. pair (omega arith) (past-symbol refl (c .before .expect .ensures))) (λ c. omega arith) (λ c. omega arith) (λ c. omega arith)
+    (also-loop-again t) (λ c. search needs)
+    (λ c. many-spent _ _ _ _ expression-last no-expression-counted refl (c .before .loop .inv .0) (omega arith)))
 
 abbrev rest-cs : ℕ → List Callee
 rest-cs t = expect ∷ below arg-rank t ∷ []
@@ -264,16 +293,18 @@ rest-loop-again : (t : ℕ) → cycle.Lts-rest.Need-loop-again (claims-2 (asked 
 rest-loop-again t c =
     let after-arg = c .before .before in let after-expect = after-arg .before .before in let in-loop = after-expect .before .before .before in let
     start = in-loop .before .before in so-turns (in-loop .loop .inv) (C.further (readers (within (start .args .levels))) (in-loop .loop .left - 1))
-    value-next (further-reads _ (after-expect .expect .ensures .1) (after-arg .arg .ensures .1)) (after-arg .arg .kept .0) (λ src l at free e.
-    value-turn (start .args .levels) src (in-loop .loop .left) at (omega arith))
+    value-next (further-reads _ (after-expect .expect .ensures .1) (after-arg .arg .ensures .1)) (after-arg .arg .kept .0)
+    (λ src l at free e. value-turn (start .args .levels) src (in-loop .loop .left) at (omega arith))
 
 pub rest-ok : {M : Type 1} (t : ℕ) → cycle.Lts-rest.Closed (claims-2 (rest-cs t)) (at rest-rank t) (rest-rank .post) M
 rest-ok t =
-    knowing (rest-cs t) _ (cycle.Lts-rest.spec (claims-2 (asked rest-cs t)) (at rest-rank t) (rest-rank .post) rest-inv rest-turns (λ c. so-begins (c
-    .before .pre .1) before-first) (λ c κs. omega (arith, c .before .before .loop, c .before .before .before .before .pre)) (λ c κs. (omega arith,
-    ready-leaves (c .before .expect .ensures .1 .0) refl refl (c .before .expect .ensures .0 .0))) (λ c. omega arith) (λ c. omega arith)
-    (rest-loop-again t) (λ c. search needs) (λ c. so-ends (c .before .loop .inv) T.noExpressions before-last (wordless no-expression-words) (λ src l
-    at free e. value-last (c .before .before .before .args .levels) src _ at (omega arith))))
+    knowing (rest-cs t) _
+    (cycle.Lts-rest.spec (claims-2 (asked rest-cs t)) (at rest-rank t) (rest-rank .post) rest-inv rest-turns
+    (λ c. so-begins (c .before .pre .1) before-first) (λ c κs. pair (ready-leaves (c .before .before .loop .inv .room) (c .before .before .loop .inv
+    .same) refl (c .before .before .before .before .pre .1)) (omega arith))
+    (λ c κs. pair (omega arith) (past-symbol refl (c .before .expect .ensures))) (λ c. omega arith) (λ c. omega arith) (rest-loop-again t)
+    (λ c. search needs) (λ c. so-ends (c .before .loop .inv) T.noExpressions before-last (wordless no-expression-words) (λ src l at free e. value-last
+    (c .before .before .before .args .levels) src _ at (omega arith))))
 
 abbrev index-cs : ℕ → List Callee
 index-cs t = free-of ∷ expect ∷ below key-rank t ∷ close-item ∷ []
@@ -281,35 +312,37 @@ index-cs t = free-of ∷ expect ∷ below key-rank t ∷ close-item ∷ []
 index-returns : (t : ℕ) → cycle.Lts-index.Need-returns (claims-4 (asked index-cs t)) (at index-rank t) (index-rank .post)
 index-returns t c =
     let after-close-item = c .before .before in let after-key = after-close-item .before .before .before .before in let after-expect = after-key
-    .before .before in let after-free-of = after-expect .before .before in pair (room-left (left (after-expect .expect .ensures .1 .0) plus (after-key
-    .key .ensures .1 .0) less (after-close-item .close-item .ensures .1 .0)) refl) (λ src l. index-read src _ _ (after-free-of .free-of .ensures .1)
-    (after-expect .expect .ensures .1 .1 src l) (after-key .key .ensures .1 .1 src l) (after-close-item .close-item .ensures .1 .1))
+    .before .before in let after-free-of = after-expect .before .before in pair
+    (room-left (left (after-expect .expect .ensures .1 .0) plus (after-key .key .ensures .1 .0) less (after-close-item .close-item .ensures .1 .0))
+    refl) (λ src l. index-read src _ _ (after-free-of .free-of .ensures .1) (after-expect .expect .ensures .1 .1 src l) (after-key .key .ensures .1 .1
+    src l) (after-close-item .close-item .ensures .1 .1))
 
 pub index-ok : {M : Type 1} (t : ℕ) → cycle.Lts-index.Closed (claims-4 (index-cs t)) (at index-rank t) (index-rank .post) M
 index-ok t =
-    knowing (index-cs t) _ (cycle.Lts-index.spec (claims-4 (asked index-cs t)) (at index-rank t) (index-rank .post) (λ c κs. tt) (λ c κs. omega arith)
-    (λ c κs. omega (arith, c .before .expect)) (λ c κs. ready-leaves (c .before .before .before .key .ensures .1 .0) (c .before .before .before .key
-    .kept .0) refl (ready-leaves (c .before .before .before .before .before .expect .ensures .1 .0) refl refl (c .before .before .before .before
-    .before .expect .ensures .0 .0))) (λ c. search needs) (index-returns t))
+    knowing (index-cs t) _
+    (cycle.Lts-index.spec (claims-4 (asked index-cs t)) (at index-rank t) (index-rank .post) (λ c κs. tt) (λ c κs. omega arith)
+    (λ c κs. pair (omega arith) (past-symbol refl (c .before .expect .ensures)))
+    (λ c κs. ready-leaves (c .before .before .before .key .ensures .1 .0) (c .before .before .before .key .kept .0) refl (past-symbol refl (c .before
+    .before .before .before .before .expect .ensures))) (λ c. search needs) (index-returns t))
 
 abbrev key-cs : ℕ → List Callee
 key-cs t = kind-here ∷ is-monadic ∷ below monad-rank t ∷ below unit-rank t ∷ []
 
-key-returns : (t : ℕ) → cycle.Lts-key.Need-returns (claims-4 (asked key-cs t)) (at key-rank t) (key-rank .post)
+key-returns : (t : ℕ) → cycle.Lts-key.Need-returns (claims-4 (key-cs t)) (at key-rank t) (key-rank .post)
 key-returns t c =
     let after-monad = c .before .before in let after-if1 = after-monad .before .before in let after-is-monadic = after-if1 .before in let
-    after-kind-here = after-is-monadic .before in subscript-monadic _ (after-kind-here .kind-here .ensures .1) (after-is-monadic .is-monadic .ensures
-    .1) (after-if1 .if1 .taken) (after-monad .monad .ensures .1)
+    after-kind-here = after-is-monadic .before in subscript-monadic _ (after-kind-here .kind-here .ensures) (after-is-monadic .is-monadic .ensures)
+    (after-if1 .if1 .taken) (after-monad .monad .ensures)
 
-key-returns-2 : (t : ℕ) → cycle.Lts-key.Need-returns-2 (claims-4 (asked key-cs t)) (at key-rank t) (key-rank .post)
+key-returns-2 : (t : ℕ) → cycle.Lts-key.Need-returns-2 (claims-4 (key-cs t)) (at key-rank t) (key-rank .post)
 key-returns-2 t c =
     let after-unit = c .before .before in let after-if1 = after-unit .before .before in let after-is-monadic = after-if1 .before in let
-    after-kind-here = after-is-monadic .before in subscript-primary _ (after-kind-here .kind-here .ensures .1) (after-is-monadic .is-monadic .ensures
-    .1) (after-if1 .if1 .left) (after-unit .unit .ensures .1)
+    after-kind-here = after-is-monadic .before in subscript-primary _ (after-kind-here .kind-here .ensures) (after-is-monadic .is-monadic .ensures)
+    (after-if1 .if1 .left) (after-unit .unit .ensures)
 
 pub key-ok : {M : Type 1} (t : ℕ) → cycle.Lts-key.Closed (claims-4 (key-cs t)) (at key-rank t) (key-rank .post) M
 key-ok t =
-    knowing (key-cs t) _ (cycle.Lts-key.spec (claims-4 (asked key-cs t)) (at key-rank t) (key-rank .post) (λ c κs. omega arith) (λ c κs. tt) (λ c κs.
-    let if1 = c .before in let is-monadic = if1 .before in let start = is-monadic .before .before .before .before in (omega arith, (start .pre .1,
-    monadic-positive _ (is-monadic .is-monadic .ensures .1) (if1 .if1 .taken)))) (λ c κs. omega arith) (λ c. search needs) (key-returns t) (λ c.
-    search needs) (key-returns-2 t))
+    cycle.Lts-key.spec (claims-4 (key-cs t)) (at key-rank t) (key-rank .post) (λ c κs. omega arith) (λ c κs. tt)
+    (λ c κs. let if1 = c .before in let is-monadic = if1 .before in let start = is-monadic .before .before .before .before in pair (omega arith) (pair
+    (start .pre .1) (monadic-positive _ (is-monadic .is-monadic .ensures) (if1 .if1 .taken)))) (λ c κs. omega arith) (λ c. search needs)
+    (key-returns t) (λ c. search needs) (key-returns-2 t)
