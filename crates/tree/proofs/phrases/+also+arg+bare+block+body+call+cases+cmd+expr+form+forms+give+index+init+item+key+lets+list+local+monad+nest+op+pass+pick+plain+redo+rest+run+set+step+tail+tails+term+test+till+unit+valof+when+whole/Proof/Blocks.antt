@@ -3,7 +3,7 @@ use Rattle.tree.proofs.phrases.+also+arg+bare+block+body+call+cases+cmd
 use Rattle.language.specs.Kinds as K
 use Rattle.language.specs.Tree as T
 use Rattle.language.specs.Commands as C
-use Rattle.laws.proofs.Basics.{[], _∷_, List, ℕ, _+_, refl, sym, ap, _∙_, eqb, arith, needs, eq-eqb, ne-eqb}
+use Rattle.laws.proofs.Basics.{ℕ, _+_, refl, sym, ap, _∙_, eqb, arith, needs, eq-eqb, ne-eqb}
 use Rattle.language.specs.Grammar.{within, readers}
 use Rattle.language.specs.Reader.{manyUpTo, moreUpTo}
 use Rattle.tree.proofs.Blocks.{for-read, switchon-read, block-read, listed-read, no-command-words, no-commands, semicolon-commands}
@@ -20,15 +20,14 @@ use Rattle.tree.proofs.Steps.{pair, goes-on, adds-on, _then_}
 use Rattle.tree.proofs.Symbols.{lies-still}
 use Rattle.tree.specs.Encoding.{encodeCommands, encodeLocals}
 use Rattle.tree.specs.Reads.{freeOf}
-use Rattle.tree.proofs.Asked.{Callee, knowing}
-use cycle.Proof.Ranks.{a-name, arg-rank, asked, at, begin-item, below, block-rank, claims-2, claims-4, claims-6, claims-7, claims-8, claims-9}
-use cycle.Proof.Ranks.{cmd-rank, expect, expr-rank, free-of, further-names, init-rank, is-vector, item-rank, kind-here, lets-rank, list-rank}
-use cycle.Proof.Ranks.{local-rank, minus, node, optional, optional-by, pick-rank, refuse, rest-rank, set-size, step-rank, till-rank, vector}
+use cycle.Proof.Ranks.{Calls, a-name, arg-rank, at, begin-item, below, block-rank, calls-2, calls-4, calls-6, calls-7, calls-8, calls-9, cmd-rank}
+use cycle.Proof.Ranks.{expect, expr-rank, free-of, further-names, init-rank, is-vector, item-rank, kind-here, lets-rank, list-rank, local-rank, minus}
+use cycle.Proof.Ranks.{node, optional, optional-by, pick-rank, refuse, rest-rank, set-size, step-rank, till-rank, vector}
 
-abbrev step-cs : ℕ → List Callee
-step-cs t = free-of ∷ expect ∷ a-name ∷ below expr-rank t ∷ optional-by ∷ minus ∷ below cmd-rank t ∷ node ∷ []
+abbrev pub step-cs : ℕ → Calls cycle.Lts-step.Claims
+step-cs t = calls-8 free-of expect a-name (below expr-rank t) optional-by minus (below cmd-rank t) node
 
-step-returns : (t : ℕ) → cycle.Lts-step.Need-returns (claims-8 (asked step-cs t)) (at step-rank t) (step-rank .post)
+step-returns : (t : ℕ) → cycle.Lts-step.Need-returns (step-cs t .claims) (at step-rank t) (step-rank .post)
 step-returns t c =
     let after-node = c .before .before in let after-cmd = after-node .before .before .before .before in let after-expect4 = after-cmd .before .before
     in let after-minus = after-expect4 .before .before in let after-free-of3 = after-minus .before in let after-free-of2 = after-free-of3 .before
@@ -54,10 +53,9 @@ step-returns t c =
           .expr .kept .0 ∙ after-a-name .a-name .kept .0),
     )) (after-node .node .ensures .1 .1)))
 
-pub step-ok : {M : Type 1} (t : ℕ) → cycle.Lts-step.Closed (claims-8 (step-cs t)) (at step-rank t) (step-rank .post) M
+pub step-ok : {M : Type 1} (t : ℕ) → cycle.Lts-step.Closed (step-cs t .claims) (at step-rank t) (step-rank .post) M
 step-ok t =
-    knowing (step-cs t) _
-    (cycle.Lts-step.spec (claims-8 (asked step-cs t)) (at step-rank t) (step-rank .post) (λ c κs. tt) (λ c κs. omega arith)
+    cycle.Lts-step.spec (step-cs t .claims) (at step-rank t) (step-rank .post) (λ c κs. tt) (λ c κs. omega arith)
     (λ c κs. past-symbol refl (c .before .expect .ensures))
     (λ c κs. let e = c .before .before .before .a-name in pair (ready-leaves (e .ensures .1 .0) (e .kept .0) refl (e .ensures .0)) (omega arith))
     (λ c κs. pair (omega arith) (pair (past-symbol refl (c .before .expect2 .ensures)) (omega arith)))
@@ -82,12 +80,12 @@ step-ok t =
     optional-by = cmd .before .before .before .before .before .before .before .before .before .before .before in let expr2 = optional-by .before
     .before .before .before in let expr = expr2 .before .before .before .before .before .before in let a-name = expr .before .before .before .before
     .before .before in node .node .kept .0 ∙ cmd .cmd .kept .0 ∙ optional-by .optional-by .kept .0 ∙ expr2 .expr2 .kept .0 ∙ expr .expr .kept .0 ∙
-    a-name .a-name .kept .0) (step-returns t))
+    a-name .a-name .kept .0) (step-returns t)
 
-abbrev pick-cs : ℕ → List Callee
-pick-cs t = free-of ∷ expect ∷ below expr-rank t ∷ minus ∷ below item-rank t ∷ below list-rank t ∷ node ∷ []
+abbrev pub pick-cs : ℕ → Calls cycle.Lts-pick.Claims
+pick-cs t = calls-7 free-of expect (below expr-rank t) minus (below item-rank t) (below list-rank t) node
 
-pick-returns : (t : ℕ) → cycle.Lts-pick.Need-returns (claims-7 (asked pick-cs t)) (at pick-rank t) (pick-rank .post)
+pick-returns : (t : ℕ) → cycle.Lts-pick.Need-returns (pick-cs t .claims) (at pick-rank t) (pick-rank .post)
 pick-returns t c =
     let after-node = c .before .before in let after-list = after-node .before .before .before .before in let after-item = after-list .before .before
     .before .before in let after-expect3 = after-item .before .before in let after-expect2 = after-expect3 .before .before in let after-minus =
@@ -101,10 +99,9 @@ pick-returns t c =
     .1 src l₂) (after-list .list .ensures .1 .1 src l₃) (measured _ _ (after-minus .minus .ensures .1) (after-free-of2 .free-of2 .ensures .1)
     (after-expr .expr .kept .0)) (after-node .node .ensures .1 .1)))
 
-pub pick-ok : {M : Type 1} (t : ℕ) → cycle.Lts-pick.Closed (claims-7 (pick-cs t)) (at pick-rank t) (pick-rank .post) M
+pub pick-ok : {M : Type 1} (t : ℕ) → cycle.Lts-pick.Closed (pick-cs t .claims) (at pick-rank t) (pick-rank .post) M
 pick-ok t =
-    knowing (pick-cs t) _
-    (cycle.Lts-pick.spec (claims-7 (asked pick-cs t)) (at pick-rank t) (pick-rank .post) (λ c κs. tt) (λ c κs. omega arith)
+    cycle.Lts-pick.spec (pick-cs t .claims) (at pick-rank t) (pick-rank .post) (λ c κs. tt) (λ c κs. omega arith)
     (λ c κs. pair (omega arith) (pair (past-symbol refl (c .before .expect .ensures)) (omega arith))) (λ c κs. tt) (λ c κs. tt)
     (λ c κs. let e = c .before .before .before .before .before .before .expr in pair (past-expression refl (e .ensures) (e .kept .0)) (omega arith))
     (λ c κs. pair (past-symbol refl (c .before .expect2 .ensures)) (omega arith))
@@ -123,12 +120,12 @@ pick-ok t =
     )) (λ c κs. ready-leaves (c .before .before .before .list .ensures .1 .0) (c .before .before .before .list .kept .0) refl
     (c .before .before .before .list .ensures .0 .1)) (λ c. let node = c .before .before in let at-list = node .before .before .before .before in let
     item = at-list .before .before .before .before in let expr = item .before .before .before .before .before .before .before .before .before .before
-    .before in node .node .kept .0 ∙ at-list .list .kept .0 ∙ item .item .kept .0 ∙ expr .expr .kept .0) (pick-returns t))
+    .before in node .node .kept .0 ∙ at-list .list .kept .0 ∙ item .item .kept .0 ∙ expr .expr .kept .0) (pick-returns t)
 
-abbrev item-cs : ℕ → List Callee
-item-cs t = free-of ∷ begin-item ∷ below cmd-rank t ∷ set-size ∷ []
+abbrev pub item-cs : ℕ → Calls cycle.Lts-item.Claims
+item-cs t = calls-4 free-of begin-item (below cmd-rank t) set-size
 
-item-returns : (t : ℕ) → cycle.Lts-item.Need-returns (claims-4 (asked item-cs t)) (at item-rank t) (item-rank .post)
+item-returns : (t : ℕ) → cycle.Lts-item.Need-returns (item-cs t .claims) (at item-rank t) (item-rank .post)
 item-returns t c =
     let after-set-size = c .before .before in let after-cmd = after-set-size .before .before .before .before in let after-begin-item = after-cmd
     .before .before .before .before in let after-free-of = after-begin-item .before .before in let start = after-free-of .before .before .before in
@@ -137,17 +134,16 @@ item-returns t c =
     .1) (after-cmd .cmd .ensures .1 .1 src (lies-still l (after-begin-item .begin-item .ensures .1 .0 .kept))) (after-set-size .set-size .ensures .1
     .1))
 
-pub item-ok : {M : Type 1} (t : ℕ) → cycle.Lts-item.Closed (claims-4 (item-cs t)) (at item-rank t) (item-rank .post) M
+pub item-ok : {M : Type 1} (t : ℕ) → cycle.Lts-item.Closed (item-cs t .claims) (at item-rank t) (item-rank .post) M
 item-ok t =
-    knowing (item-cs t) _
-    (cycle.Lts-item.spec (claims-4 (asked item-cs t)) (at item-rank t) (item-rank .post) (λ c κs. tt) (λ c κs. omega arith)
+    cycle.Lts-item.spec (item-cs t .claims) (at item-rank t) (item-rank .post) (λ c κs. tt) (λ c κs. omega arith)
     (λ c κs. pair (omega arith) (ready-takes (c .before .before .before .begin-item .ensures .1 .0) (c .before .before .before .begin-item .kept .0)
     (c .before .before .before .begin-item .ensures .0))) (λ c κs. let cmd = c .before .before .before in let begin-item = cmd .before .before .before
     .before in let free-of = begin-item .before .before in pair (past-part refl (cmd .cmd .ensures) (cmd .cmd .kept .0)) (item-low (free-of .free-of
-    .ensures .1) (ready-part (begin-item .begin-item .ensures .0) refl))) (λ c. search needs) (item-returns t))
+    .ensures .1) (ready-part (begin-item .begin-item .ensures .0) refl))) (λ c. search needs) (item-returns t)
 
-abbrev list-cs : ℕ → List Callee
-list-cs t = kind-here ∷ expect ∷ below item-rank t ∷ refuse ∷ []
+abbrev pub list-cs : ℕ → Calls cycle.Lts-list.Claims
+list-cs t = calls-4 kind-here expect (below item-rank t) refuse
 
 abbrev list-inv : cycle.Lts-list.InvT-loop
 list-inv s₀ n levels turns₀ a₀ s turns a =
@@ -157,19 +153,19 @@ list-inv s₀ n levels turns₀ a₀ s turns a =
 abbrev list-turns : cycle.Lts-list.MeasureT-loop
 list-turns s₀ n levels turns₀ a₀ s turns a = turns
 
-list-returns : (t : ℕ) → cycle.Lts-list.Need-returns (claims-4 (asked list-cs t)) (at list-rank t) (list-rank .post) list-inv list-turns
+list-returns : (t : ℕ) → cycle.Lts-list.Need-returns (list-cs t .claims) (at list-rank t) (list-rank .post) list-inv list-turns
 list-returns t c =
     let after-if1 = c .before .before in let after-kind-here = after-if1 .before in let in-loop = after-kind-here .before .before .before in list-ends
     _ _ _ (in-loop .loop .inv) (after-kind-here .kind-here .ensures .1) no-command-words (after-if1 .if1 .taken) (c .expect .ensures .1) (omega arith)
 
-list-returns-2 : (t : ℕ) → cycle.Lts-list.Need-returns-2 (claims-4 (asked list-cs t)) (at list-rank t) (list-rank .post) list-inv list-turns
+list-returns-2 : (t : ℕ) → cycle.Lts-list.Need-returns-2 (list-cs t .claims) (at list-rank t) (list-rank .post) list-inv list-turns
 list-returns-2 t c =
     let after-if2 = c .before .before in let after-kind-here2 = after-if2 .before in let after-expect2 = after-kind-here2 .before .before in let
     after-if1 = after-expect2 .before .before in let after-kind-here = after-if1 .before in let in-loop = after-kind-here .before .before .before in
     list-semicolon-ends _ _ _ (in-loop .loop .inv) (after-kind-here .kind-here .ensures .1) no-command-words (after-if1 .if1 .left)
     (after-expect2 .expect2 .ensures .1) (after-kind-here2 .kind-here2 .ensures .1) (after-if2 .if2 .taken) (c .expect3 .ensures .1) (omega arith)
 
-list-loop-again : (t : ℕ) → cycle.Lts-list.Need-loop-again (claims-4 (asked list-cs t)) (at list-rank t) (list-rank .post) list-inv list-turns
+list-loop-again : (t : ℕ) → cycle.Lts-list.Need-loop-again (list-cs t .claims) (at list-rank t) (list-rank .post) list-inv list-turns
 list-loop-again t c =
     let after-item = c .before .before in let after-if2 = after-item .before .before in let after-kind-here2 = after-if2 .before in let after-expect2
     = after-kind-here2 .before .before in let after-if1 = after-expect2 .before .before in let after-kind-here = after-if1 .before in let in-loop =
@@ -177,11 +173,9 @@ list-loop-again t c =
     (after-expect2 .expect2 .ensures .1) (after-kind-here2 .kind-here2 .ensures .1) (after-if2 .if2 .left)
     (takes-more (after-item .item .ensures .1 .0) refl) (after-item .item .kept .0) (after-item .item .ensures .1 .1) (omega arith)
 
-pub list-ok : {M : Type 1} (t : ℕ) → cycle.Lts-list.Closed (claims-4 (list-cs t)) (at list-rank t) (list-rank .post) M
+pub list-ok : {M : Type 1} (t : ℕ) → cycle.Lts-list.Closed (list-cs t .claims) (at list-rank t) (list-rank .post) M
 list-ok t =
-    knowing (list-cs t) _
-    (cycle.Lts-list.spec (claims-4 (asked list-cs t)) (at list-rank t) (list-rank .post) list-inv list-turns
-    (λ c. so-begins (c .before .pre .1) before-first)
+    cycle.Lts-list.spec (list-cs t .claims) (at list-rank t) (list-rank .post) list-inv list-turns (λ c. so-begins (c .before .pre .1) before-first)
     (λ c κs. ready-leaves (c .before .before .loop .inv .room) (c .before .before .loop .inv .same) refl (c .before .before .before .before .pre .1))
     (λ c κs. pair (c .before .before .kind-here .ensures .0) (omega arith)) (λ c. search needs) (list-returns t)
     (λ c κs. pair (c .before .before .kind-here .ensures .0) (omega arith)) (λ c κs. past-symbol refl (c .before .expect2 .ensures))
@@ -189,32 +183,31 @@ list-ok t =
     (λ c κs. pair (omega arith) (past-symbol refl (c .before .before .before .before .expect2 .ensures))) (λ c. omega arith) (λ c. omega arith)
     (list-loop-again t)
     (λ c κs. ready-leaves (c .before .before .loop .inv .room) (c .before .before .loop .inv .same) refl (c .before .before .before .before .pre .1))
-    (λ c. search needs) (λ c. list-spents _ _ _ (c .before .before .before .loop .inv) (c .refuse .ensures .1) (omega arith)))
+    (λ c. search needs) (λ c. list-spents _ _ _ (c .before .before .before .loop .inv) (c .refuse .ensures .1) (omega arith))
 
-abbrev till-cs : ℕ → List Callee
-till-cs t = kind-here ∷ expect ∷ below item-rank t ∷ below list-rank t ∷ []
+abbrev pub till-cs : ℕ → Calls cycle.Lts-till.Claims
+till-cs t = calls-4 kind-here expect (below item-rank t) (below list-rank t)
 
-till-returns-3 : (t : ℕ) → cycle.Lts-till.Need-returns-3 (claims-4 (asked till-cs t)) (at till-rank t) (till-rank .post)
+till-returns-3 : (t : ℕ) → cycle.Lts-till.Need-returns-3 (till-cs t .claims) (at till-rank t) (till-rank .post)
 till-returns-3 t c =
     let after-list = c .before .before in let after-item = after-list .before .before .before .before in let after-match = after-item .before .before
     in let after-kind-here = after-match .before in some-commands _ (after-kind-here .kind-here .ensures .1) (after-match .match .rest)
     (after-item .item .ensures .1) (after-list .list .ensures .1)
 
-pub till-ok : {M : Type 1} (t : ℕ) → cycle.Lts-till.Closed (claims-4 (till-cs t)) (at till-rank t) (till-rank .post) M
+pub till-ok : {M : Type 1} (t : ℕ) → cycle.Lts-till.Closed (till-cs t .claims) (at till-rank t) (till-rank .post) M
 till-ok t =
-    knowing (till-cs t) _
-    (cycle.Lts-till.spec (claims-4 (asked till-cs t)) (at till-rank t) (till-rank .post) (λ c κs. omega arith) (λ c κs. omega arith)
-    (λ c κs. omega arith) (λ c κs. pair (past-symbol refl (c .before .expect2 .ensures)) (omega arith)) (λ c κs. omega arith)
+    cycle.Lts-till.spec (till-cs t .claims) (at till-rank t) (till-rank .post) (λ c κs. omega arith) (λ c κs. omega arith) (λ c κs. omega arith)
+    (λ c κs. pair (past-symbol refl (c .before .expect2 .ensures)) (omega arith)) (λ c κs. omega arith)
     (λ c κs. pair (omega arith) (ready-takes (c .before .before .before .item .ensures .1 .0) (c .before .before .before .item .kept .0) (c .before
     .before .before .item .ensures .0 .1))) (λ c. search needs)
     (λ c. no-commands _ (c .before .before .before .kind-here .ensures .1) (c .before .before .match .keys1) (c .expect .ensures .1))
     (λ c. search needs) (λ c. semicolon-commands _ (c .before .before .before .before .before .kind-here .ensures .1) (c .before .before .before
-    .before .match .keys2) (c .before .before .expect2 .ensures .1) (c .expect3 .ensures .1)) (λ c. search needs) (till-returns-3 t))
+    .before .match .keys2) (c .before .before .expect2 .ensures .1) (c .expect3 .ensures .1)) (λ c. search needs) (till-returns-3 t)
 
-abbrev block-cs : ℕ → List Callee
-block-cs t = free-of ∷ expect ∷ below lets-rank t ∷ minus ∷ below till-rank t ∷ node ∷ []
+abbrev pub block-cs : ℕ → Calls cycle.Lts-block.Claims
+block-cs t = calls-6 free-of expect (below lets-rank t) minus (below till-rank t) node
 
-block-returns : (t : ℕ) → cycle.Lts-block.Need-returns (claims-6 (asked block-cs t)) (at block-rank t) (block-rank .post)
+block-returns : (t : ℕ) → cycle.Lts-block.Need-returns (block-cs t .claims) (at block-rank t) (block-rank .post)
 block-returns t c =
     let after-node = c .before .before in let after-till = after-node .before .before .before .before in let after-minus = after-till .before .before
     in let after-free-of2 = after-minus .before in let after-lets = after-free-of2 .before .before .before .before in let after-expect = after-lets
@@ -225,10 +218,9 @@ block-returns t c =
     .ensures .1 .1 src l₂) (measured _ _ (after-minus .minus .ensures .1) (after-free-of2 .free-of2 .ensures .1) (after-lets .lets .kept .0))
     (after-node .node .ensures .1 .1)))
 
-pub block-ok : {M : Type 1} (t : ℕ) → cycle.Lts-block.Closed (claims-6 (block-cs t)) (at block-rank t) (block-rank .post) M
+pub block-ok : {M : Type 1} (t : ℕ) → cycle.Lts-block.Closed (block-cs t .claims) (at block-rank t) (block-rank .post) M
 block-ok t =
-    knowing (block-cs t) _
-    (cycle.Lts-block.spec (claims-6 (asked block-cs t)) (at block-rank t) (block-rank .post) (λ c κs. tt) (λ c κs. omega arith)
+    cycle.Lts-block.spec (block-cs t .claims) (at block-rank t) (block-rank .post) (λ c κs. tt) (λ c κs. omega arith)
     (λ c κs. pair (omega arith) (past-symbol refl (c .before .expect .ensures))) (λ c κs. tt) (λ c κs. tt)
     (λ c κs. pair (omega arith) (ready-leaves (c .before .before .before .before .before .before .lets .ensures .1 .0) (c .before .before .before
     .before .before .before .lets .kept .0) refl (past-symbol refl (c .before .before .before .before .before .before .before .before .expect
@@ -237,10 +229,10 @@ block-ok t =
       size-small _ (minus .minus .ensures .1) (free-of2 .free-of2 .ensures .1) (ready-part (till .till .ensures .0 .1) refl),
     ))
     (λ c κs. ready-leaves (c .before .before .before .till .ensures .1 .0) (c .before .before .before .till .kept .0) refl (ready-part (c .before
-    .before .before .till .ensures .0 .1) refl)) (λ c. search needs) (block-returns t))
+    .before .before .till .ensures .0 .1) refl)) (λ c. search needs) (block-returns t)
 
-abbrev lets-cs : ℕ → List Callee
-lets-cs t = kind-here ∷ below local-rank t ∷ []
+abbrev pub lets-cs : ℕ → Calls cycle.Lts-lets.Claims
+lets-cs t = calls-2 kind-here (below local-rank t)
 
 abbrev lets-inv : cycle.Lts-lets.InvT-loop
 lets-inv s₀ n levels turns₀ a₀ s turns a =
@@ -250,27 +242,26 @@ lets-inv s₀ n levels turns₀ a₀ s turns a =
 abbrev lets-turns : cycle.Lts-lets.MeasureT-loop
 lets-turns s₀ n levels turns₀ a₀ s turns a = turns
 
-lets-loop-again : (t : ℕ) → cycle.Lts-lets.Need-loop-again (claims-2 (lets-cs t)) (at lets-rank t) (lets-rank .post) lets-inv lets-turns
+lets-loop-again : (t : ℕ) → cycle.Lts-lets.Need-loop-again (lets-cs t .claims) (at lets-rank t) (lets-rank .post) lets-inv lets-turns
 lets-loop-again t c =
     let after-local = c .before .before in let after-if1 = after-local .before .before in let after-kind-here = after-if1 .before in let in-loop =
-    after-kind-here .before .before .before in many-turns _ _ _ _ before-next (in-loop .loop .inv) (after-kind-here .kind-here .ensures)
-    (eq-eqb _ _ (after-if1 .if1 .left)) (at-any (after-local .local .ensures)) (after-local .local .kept .0) (omega arith)
+    after-kind-here .before .before .before in many-turns _ _ _ _ before-next (in-loop .loop .inv) (after-kind-here .kind-here .ensures .1)
+    (eq-eqb _ _ (after-if1 .if1 .left)) (at-any (after-local .local .ensures .1)) (after-local .local .kept .0) (omega arith)
 
-pub lets-ok : {M : Type 1} (t : ℕ) → cycle.Lts-lets.Closed (claims-2 (lets-cs t)) (at lets-rank t) (lets-rank .post) M
+pub lets-ok : {M : Type 1} (t : ℕ) → cycle.Lts-lets.Closed (lets-cs t .claims) (at lets-rank t) (lets-rank .post) M
 lets-ok t =
-    cycle.Lts-lets.spec (claims-2 (lets-cs t)) (at lets-rank t) (lets-rank .post) lets-inv lets-turns
-    (λ c. so-begins (c .before .pre .1) before-first)
+    cycle.Lts-lets.spec (lets-cs t .claims) (at lets-rank t) (lets-rank .post) lets-inv lets-turns (λ c. so-begins (c .before .pre .1) before-first)
     (λ c κs. ready-leaves (c .before .before .loop .inv .room) (c .before .before .loop .inv .same) refl (c .before .before .before .before .pre .1))
     (λ c. search needs) (λ c. many-ends _ _ _ _ before-last (wordless no-local-words) refl (c .before .before .before .before .loop .inv) (c .before
-    .kind-here .ensures) (ne-eqb _ _ (c .if1 .taken))) (λ c κs. pair (omega arith) (ready-leaves (c .before .before .before .before .before .loop .inv
-    .room) (c .before .before .before .before .before .loop .inv .same) refl (c .before .before .before .before .before .before .before .pre .1)))
-    (λ c. omega arith) (λ c. omega arith) (lets-loop-again t) (λ c. search needs)
+    .kind-here .ensures .1) (ne-eqb _ _ (c .if1 .taken))) (λ c κs. pair (omega arith) (ready-leaves (c .before .before .before .before .before .loop
+    .inv .room) (c .before .before .before .before .before .loop .inv .same) refl (c .before .before .before .before .before .before .before .pre
+    .1))) (λ c. omega arith) (λ c. omega arith) (lets-loop-again t) (λ c. search needs)
     (λ c. many-spent _ _ _ _ before-last (wordless no-local-words) refl (c .before .loop .inv) (omega arith))
 
-abbrev local-cs : ℕ → List Callee
-local-cs t = free-of ∷ expect ∷ begin-item ∷ a-name ∷ further-names ∷ minus ∷ below init-rank t ∷ optional ∷ set-size ∷ []
+abbrev pub local-cs : ℕ → Calls cycle.Lts-local.Claims
+local-cs t = calls-9 free-of expect begin-item a-name further-names minus (below init-rank t) optional set-size
 
-local-returns : (t : ℕ) → cycle.Lts-local.Need-returns (claims-9 (asked local-cs t)) (at local-rank t) (local-rank .post)
+local-returns : (t : ℕ) → cycle.Lts-local.Need-returns (local-cs t .claims) (at local-rank t) (local-rank .post)
 local-returns t c =
     let after-set-size = c .before .before in let after-optional = after-set-size .before .before in let after-init = after-optional .before .before
     .before .before in let after-expect2 = after-init .before .before in let after-minus = after-expect2 .before .before in let after-free-of4 =
@@ -297,10 +288,9 @@ local-returns t c =
     (after-further-names .further-names .kept .0 ∙ after-a-name .a-name .kept .0 ∙ after-begin-item .begin-item .kept .0) ∙ e)) (after-init .init
     .ensures .1 .1 src l₃ .0) (after-optional .optional .ensures .1 .1 src l₄) (after-set-size .set-size .ensures .1 .1)))
 
-pub local-ok : {M : Type 1} (t : ℕ) → cycle.Lts-local.Closed (claims-9 (local-cs t)) (at local-rank t) (local-rank .post) M
+pub local-ok : {M : Type 1} (t : ℕ) → cycle.Lts-local.Closed (local-cs t .claims) (at local-rank t) (local-rank .post) M
 local-ok t =
-    knowing (local-cs t) _
-    (cycle.Lts-local.spec (claims-9 (asked local-cs t)) (at local-rank t) (local-rank .post) (λ c κs. tt) (λ c κs. omega arith)
+    cycle.Lts-local.spec (local-cs t .claims) (at local-rank t) (local-rank .post) (λ c κs. tt) (λ c κs. omega arith)
     (λ c κs. past-symbol refl (c .before .expect .ensures)) (λ c κs. tt)
     (λ c κs. ready-takes (c .before .before .before .before .before .begin-item .ensures .1 .0) (c .before .before .before .before .before .begin-item
     .kept .0) (c .before .before .before .before .before .begin-item .ensures .0))
@@ -320,12 +310,12 @@ local-ok t =
     (λ c. let set-size = c .before .before in let init = set-size .before .before .before .before .before .before in let further-names = init .before
     .before .before .before .before .before .before .before .before .before .before in let a-name = further-names .before .before .before .before in
     let begin-item = a-name .before .before .before .before .before .before in set-size .set-size .kept .0 ∙ init .init .kept .0 ∙ further-names
-    .further-names .kept .0 ∙ a-name .a-name .kept .0 ∙ begin-item .begin-item .kept .0) (local-returns t))
+    .further-names .kept .0 ∙ a-name .a-name .kept .0 ∙ begin-item .begin-item .kept .0) (local-returns t)
 
-abbrev init-cs : ℕ → List Callee
-init-cs t = kind-here ∷ is-vector ∷ vector ∷ free-of ∷ minus ∷ below arg-rank t ∷ below rest-rank t ∷ node ∷ []
+abbrev pub init-cs : ℕ → Calls cycle.Lts-init.Claims
+init-cs t = calls-8 kind-here is-vector vector free-of minus (below arg-rank t) (below rest-rank t) node
 
-init-returns : (t : ℕ) → cycle.Lts-init.Need-returns (claims-8 (asked init-cs t)) (at init-rank t) (init-rank .post)
+init-returns : (t : ℕ) → cycle.Lts-init.Need-returns (init-cs t .claims) (at init-rank t) (init-rank .post)
 init-returns t c =
     let after-vector = c .before .before in let after-if1 = after-vector .before .before in let after-is-vector = after-if1 .before in let
     after-kind-here = after-is-vector .before in let start = after-kind-here .before .before .before in let v = vector-is
@@ -334,7 +324,7 @@ init-returns t c =
     src _ (after-kind-here .kind-here .ensures .1 src l) name names (omega (arith, q, v .1)) (v .0) (after-vector .vector .ensures .1 .1 src l .1 name
     (e ∙ ap (λ (z : ℕ). start .args .start + z) (one-name name names (omega (arith, q, v .1)))))))
 
-init-returns-2 : (t : ℕ) → cycle.Lts-init.Need-returns-2 (claims-8 (asked init-cs t)) (at init-rank t) (init-rank .post)
+init-returns-2 : (t : ℕ) → cycle.Lts-init.Need-returns-2 (init-cs t .claims) (at init-rank t) (init-rank .post)
 init-returns-2 t c =
     let after-node = c .before .before in let after-rest = after-node .before .before .before .before in let after-arg = after-rest .before .before
     .before .before in let after-minus = after-arg .before .before in let after-free-of = after-minus .before in let after-if1 = after-free-of .before
@@ -348,10 +338,9 @@ init-returns-2 t c =
     .ensures .1) (after-free-of .free-of .ensures .1) refl) (after-arg .arg .ensures .1 .1 src l) (after-rest .rest .ensures .1 .1 src l₁) (after-node
     .node .ensures .1 .1))))
 
-pub init-ok : {M : Type 1} (t : ℕ) → cycle.Lts-init.Closed (claims-8 (init-cs t)) (at init-rank t) (init-rank .post) M
+pub init-ok : {M : Type 1} (t : ℕ) → cycle.Lts-init.Closed (init-cs t .claims) (at init-rank t) (init-rank .post) M
 init-ok t =
-    knowing (init-cs t) _
-    (cycle.Lts-init.spec (claims-8 (asked init-cs t)) (at init-rank t) (init-rank .post) (λ c κs. omega arith) (λ c κs. tt) (λ c κs. omega arith)
+    cycle.Lts-init.spec (init-cs t .claims) (at init-rank t) (init-rank .post) (λ c κs. omega arith) (λ c κs. tt) (λ c κs. omega arith)
     (λ c. search needs) (init-returns t) (λ c κs. tt) (λ c κs. tt) (λ c κs. omega arith)
     (λ c κs. pair (omega arith) (ready-takes (c .before .before .before .arg .ensures .1 .0) (c .before .before .before .arg .kept .0) (ready-part (c
     .before .before .before .arg .ensures .0 .1) refl))) (λ c. let arg = c .before .before .before .before .before .before .before in let minus = arg
@@ -361,4 +350,4 @@ init-ok t =
           (arg .arg .ensures .0 .1) refl),
     )) (λ c κs. let rest = c .before .before .before in let arg = rest .before .before .before .before in let start =
     arg .before .before .before .before .before .before .before .before .before .before in ready-leaves (rest .rest .ensures .1 .0) (rest .rest .kept
-    .0) refl (ready-takes (arg .arg .ensures .1 .0) (arg .arg .kept .0) (start .pre .1))) (λ c. search needs) (init-returns-2 t))
+    .0) refl (ready-takes (arg .arg .ensures .1 .0) (arg .arg .kept .0) (start .pre .1))) (λ c. search needs) (init-returns-2 t)

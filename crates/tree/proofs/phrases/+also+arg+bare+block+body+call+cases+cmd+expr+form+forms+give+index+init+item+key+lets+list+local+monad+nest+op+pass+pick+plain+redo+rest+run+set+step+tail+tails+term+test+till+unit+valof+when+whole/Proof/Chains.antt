@@ -2,7 +2,7 @@
 use Rattle.tree.proofs.phrases.+also+arg+bare+block+body+call+cases+cmd+expr+form+forms+give+index+init+item+key+lets+list+local+monad+nest+op+pass+pick+plain+redo+rest+run+set+step+tail+tails+term+test+till+unit+valof+when+whole as cycle
 use Rattle.language.specs.Tree as T
 use Rattle.language.specs.Expressions as E
-use Rattle.laws.proofs.Basics.{[], _∷_, List, ℕ, refl, sym, _∙_, eqb, arith, needs, eq-eqb, ne-eqb}
+use Rattle.laws.proofs.Basics.{ℕ, refl, sym, _∙_, eqb, arith, needs, eq-eqb, ne-eqb}
 use Rattle.language.specs.Binding.{bindingOf}
 use Rattle.language.specs.Grammar.{within}
 use Rattle.language.specs.Reader.{manyUpTo}
@@ -17,29 +17,28 @@ use Rattle.tree.proofs.Rooms.{past-symbol, past-expression, left, room-
 use Rattle.tree.proofs.Steps.{pair, triple}
 use Rattle.tree.proofs.Symbols.{lies-still}
 use Rattle.tree.specs.Encoding.{encodeOperations}
-use Rattle.tree.proofs.Asked.{Callee, knowing}
-use cycle.Proof.Ranks.{asked, at, begin-item, below, binding-of, claims-12, claims-4, claims-5, claims-7, expect, expr-rank, free-of, further-most}
+use cycle.Proof.Ranks.{Calls, at, begin-item, below, binding-of, calls-12, calls-4, calls-5, calls-7, expect, expr-rank, free-of, further-most}
 use cycle.Proof.Ranks.{is-monadic, kind-here, minus, monad-rank, node, op-rank, place-here, place-of, reach-of, refuse, right-of, run-rank, set-size}
 use cycle.Proof.Ranks.{term-rank, whole-rank}
 
-abbrev expr-cs : ℕ → List Callee
+abbrev pub expr-cs : ℕ → Calls cycle.Lts-expr.Claims
 expr-cs t =
-    below term-rank t ∷ kind-here ∷ below monad-rank t ∷ below expr-rank t ∷ free-of ∷ binding-of ∷ minus ∷ place-of ∷ right-of ∷ below op-rank t ∷
-    below run-rank t ∷ node ∷ []
+    calls-12 (below term-rank t) kind-here (below monad-rank t) (below expr-rank t) free-of binding-of minus place-of right-of (below op-rank t)
+    (below run-rank t) node
 
-expr-returns-2 : (t : ℕ) → cycle.Lts-expr.Need-returns-2 (claims-12 (asked expr-cs t)) (at expr-rank t) (expr-rank .post)
+expr-returns-2 : (t : ℕ) → cycle.Lts-expr.Need-returns-2 (expr-cs t .claims) (at expr-rank t) (expr-rank .post)
 expr-returns-2 t c =
     let after-monad = c .before .before in let after-if3 = after-monad .before .before in let after-kind-here = after-if3 .before in let after-if2 =
     after-kind-here .before .before in expression-not _ (after-kind-here .kind-here .ensures .1) _ (after-if2 .if2 .taken) (after-if3 .if3 .taken)
     (after-monad .monad .ensures .1)
 
-expr-returns-3 : (t : ℕ) → cycle.Lts-expr.Need-returns-3 (claims-12 (asked expr-cs t)) (at expr-rank t) (expr-rank .post)
+expr-returns-3 : (t : ℕ) → cycle.Lts-expr.Need-returns-3 (expr-cs t .claims) (at expr-rank t) (expr-rank .post)
 expr-returns-3 t c =
     let after-expr = c .before .before in let after-if3 = after-expr .before .before in let after-kind-here = after-if3 .before in let after-if2 =
     after-kind-here .before .before in expression-shift _ (after-kind-here .kind-here .ensures .1) _ (after-if2 .if2 .taken) (after-if3 .if3 .left)
     (after-expr .expr .ensures .1)
 
-expr-returns-4 : (t : ℕ) → cycle.Lts-expr.Need-returns-4 (claims-12 (asked expr-cs t)) (at expr-rank t) (expr-rank .post)
+expr-returns-4 : (t : ℕ) → cycle.Lts-expr.Need-returns-4 (expr-cs t .claims) (at expr-rank t) (expr-rank .post)
 expr-returns-4 t c =
     let after-binding-of = c .before in let after-kind-here2 = after-binding-of .before in let after-expr2 = after-kind-here2 .before .before .before
     .before in let after-if2 = after-expr2 .before .before .before .before in let after-if1 = after-if2 .before in let start = after-if1 .before
@@ -47,7 +46,7 @@ expr-returns-4 t c =
     l₁ 0 _ _ (after-if1 .if1 .left) (after-if2 .if2 .left) (start .pre .1 .1) (after-kind-here2 .kind-here2 .ensures .1 src l₁) (after-expr2 .expr2
     .ensures .1 .1 src l) (λ z. c .if4 .taken (after-binding-of .binding-of .ensures .1 ∙ z))))
 
-expr-returns-5 : (t : ℕ) → cycle.Lts-expr.Need-returns-5 (claims-12 (asked expr-cs t)) (at expr-rank t) (expr-rank .post)
+expr-returns-5 : (t : ℕ) → cycle.Lts-expr.Need-returns-5 (expr-cs t .claims) (at expr-rank t) (expr-rank .post)
 expr-returns-5 t c =
     let after-node = c .before .before in let after-run = after-node .before .before .before .before in let after-op = after-run .before .before
     .before .before in let after-right-of = after-op .before .before in let after-place-of = after-right-of .before in let after-minus =
@@ -63,10 +62,9 @@ expr-returns-5 t c =
     (after-expr2 .expr2 .kept .0)) (after-place-of .place-of .ensures .1) (after-op .op .ensures .1 .1 src l₁ (after-kind-here2 .kind-here2 .ensures
     .1 src l₁)) (after-run .run .ensures .1 .1 src l₂) (after-node .node .ensures .1 .1)))
 
-pub expr-ok : {M : Type 1} (t : ℕ) → cycle.Lts-expr.Closed (claims-12 (expr-cs t)) (at expr-rank t) (expr-rank .post) M
+pub expr-ok : {M : Type 1} (t : ℕ) → cycle.Lts-expr.Closed (expr-cs t .claims) (at expr-rank t) (expr-rank .post) M
 expr-ok t =
-    knowing (expr-cs t) _
-    (cycle.Lts-expr.spec (claims-12 (asked expr-cs t)) (at expr-rank t) (expr-rank .post) (λ c κs. omega arith) (λ c. search needs)
+    cycle.Lts-expr.spec (expr-cs t .claims) (at expr-rank t) (expr-rank .post) (λ c κs. omega arith) (λ c. search needs)
     (λ c. expression-none _ _ (c .before .before .before .before .if1 .taken) (c .before .before .term .ensures .1)) (λ c κs. omega arith)
     (λ c κs. (omega arith, (c .before .before .before .before .before .before .before .pre .1 .0, omega arith))) (λ c. search needs)
     (expr-returns-2 t) (λ c. omega arith) (λ c κs. omega arith) (λ c. search needs) (expr-returns-3 t) (λ c κs. tt) (λ c. omega arith)
@@ -92,12 +90,12 @@ expr-ok t =
     .kept .0) refl (c .before .before .before .before .before .before .before .op .ensures .0 .1 .0)))
     (λ c. let node = c .before .before in let run = node .before .before .before .before in let op = run .before .before .before .before in let expr2
     = op .before .before .before .before .before .before .before .before .before .before .before .before .before .before in node .node .kept .0 ∙ run
-    .run .kept .0 ∙ op .op .kept .0 ∙ expr2 .expr2 .kept .0) (expr-returns-5 t))
+    .run .kept .0 ∙ op .op .kept .0 ∙ expr2 .expr2 .kept .0) (expr-returns-5 t)
 
-abbrev op-cs : ℕ → List Callee
-op-cs t = free-of ∷ expect ∷ begin-item ∷ below expr-rank t ∷ set-size ∷ []
+abbrev pub op-cs : ℕ → Calls cycle.Lts-op.Claims
+op-cs t = calls-5 free-of expect begin-item (below expr-rank t) set-size
 
-op-returns : (t : ℕ) → cycle.Lts-op.Need-returns (claims-5 (asked op-cs t)) (at op-rank t) (op-rank .post)
+op-returns : (t : ℕ) → cycle.Lts-op.Need-returns (op-cs t .claims) (at op-rank t) (op-rank .post)
 op-returns t c =
     let after-set-size = c .before .before in let after-expr = after-set-size .before .before .before .before in let after-begin-item = after-expr
     .before .before .before .before in let after-expect = after-begin-item .before .before in let after-free-of = after-expect .before .before in let
@@ -107,18 +105,17 @@ op-returns t c =
     (after-expect .expect .ensures .1 .1 src l) (after-begin-item .begin-item .ensures .1 .1) (after-expr .expr .ensures .1 .1 src (lies-still l
     (after-begin-item .begin-item .ensures .1 .0 .kept))) (after-set-size .set-size .ensures .1 .1))
 
-pub op-ok : {M : Type 1} (t : ℕ) → cycle.Lts-op.Closed (claims-5 (op-cs t)) (at op-rank t) (op-rank .post) M
+pub op-ok : {M : Type 1} (t : ℕ) → cycle.Lts-op.Closed (op-cs t .claims) (at op-rank t) (op-rank .post) M
 op-ok t =
-    knowing (op-cs t) _
-    (cycle.Lts-op.spec (claims-5 (asked op-cs t)) (at op-rank t) (op-rank .post) (λ c κs. tt) (λ c κs. omega arith)
+    cycle.Lts-op.spec (op-cs t .claims) (at op-rank t) (op-rank .post) (λ c κs. tt) (λ c κs. omega arith)
     (λ c κs. past-symbol refl (c .before .expect .ensures)) (λ c κs. pair (omega arith) (pair (ready-takes (c .before .before .before .begin-item
     .ensures .1 .0) (c .before .before .before .begin-item .kept .0) (c .before .before .before .begin-item .ensures .0)) (omega arith)))
     (λ c κs. let expr = c .before .before .before in let expect = expr .before .before .before .before .before .before in let free-of = expect .before
     .before in pair (past-expression refl (expr .expr .ensures) (expr .expr .kept .0)) (item-low (free-of .free-of .ensures .1) (expect .expect
-    .ensures .0 .0))) (λ c. search needs) (op-returns t))
+    .ensures .0 .0))) (λ c. search needs) (op-returns t)
 
-abbrev run-cs : ℕ → List Callee
-run-cs t = further-most ∷ kind-here ∷ binding-of ∷ below op-rank t ∷ []
+abbrev pub run-cs : ℕ → Calls cycle.Lts-run.Claims
+run-cs t = calls-4 further-most kind-here binding-of (below op-rank t)
 
 abbrev run-inv : cycle.Lts-run.InvT-loop
 run-inv s₀ n levels binding right turns₀ a₀ s turns a =
@@ -129,23 +126,22 @@ run-inv s₀ n levels binding right turns₀ a₀ s turns a =
 abbrev run-turns : cycle.Lts-run.MeasureT-loop
 run-turns s₀ n levels binding right turns₀ a₀ s turns a = turns
 
-run-returns : (t : ℕ) → cycle.Lts-run.Need-returns (claims-4 (asked run-cs t)) (at run-rank t) (run-rank .post) run-inv run-turns
+run-returns : (t : ℕ) → cycle.Lts-run.Need-returns (run-cs t .claims) (at run-rank t) (run-rank .post) run-inv run-turns
 run-returns t c =
     let after-binding-of = c .before in let after-kind-here = after-binding-of .before in let in-loop = after-kind-here .before .before .before in let
     after-further-most = in-loop .before in many-ends _ _ _ _ before-last (wordless no-operation-words) (after-further-most .further-most .ensures .1)
     (in-loop .loop .inv) (after-kind-here .kind-here .ensures .1) (ne-eqb _ _ (λ z. c .if1 .taken (after-binding-of .binding-of .ensures .1 ∙ z)))
 
-run-loop-again : (t : ℕ) → cycle.Lts-run.Need-loop-again (claims-4 (asked run-cs t)) (at run-rank t) (run-rank .post) run-inv run-turns
+run-loop-again : (t : ℕ) → cycle.Lts-run.Need-loop-again (run-cs t .claims) (at run-rank t) (run-rank .post) run-inv run-turns
 run-loop-again t c =
     let after-op = c .before .before in let after-if1 = after-op .before .before in let after-binding-of = after-if1 .before in let after-kind-here =
     after-binding-of .before in let in-loop = after-kind-here .before .before .before in many-turns _ _ _ _ before-next (in-loop .loop .inv)
     (after-kind-here .kind-here .ensures .1) (eq-eqb _ _ (sym (after-binding-of .binding-of .ensures .1) ∙ after-if1 .if1 .left))
     (after-op .op .ensures .1) (after-op .op .kept .0) (omega arith)
 
-pub run-ok : {M : Type 1} (t : ℕ) → cycle.Lts-run.Closed (claims-4 (run-cs t)) (at run-rank t) (run-rank .post) M
+pub run-ok : {M : Type 1} (t : ℕ) → cycle.Lts-run.Closed (run-cs t .claims) (at run-rank t) (run-rank .post) M
 run-ok t =
-    knowing (run-cs t) _
-    (cycle.Lts-run.spec (claims-4 (asked run-cs t)) (at run-rank t) (run-rank .post) run-inv run-turns (λ c κs. tt)
+    cycle.Lts-run.spec (run-cs t .claims) (at run-rank t) (run-rank .post) run-inv run-turns (λ c κs. tt)
     (λ c. so-begins (c .before .before .pre .1 .0) before-first)
     (λ c κs. ready-leaves (c .before .before .loop .inv .room) (c .before .before .loop .inv .same) refl (c .before .before .before .before .before
     .pre .1 .0)) (λ c κs. tt) (λ c. search needs) (run-returns t)
@@ -157,34 +153,34 @@ run-ok t =
       start .pre .1,
     ))))) (λ c. omega arith) (λ c. omega arith) (run-loop-again t)
     (λ c. search needs) (λ c. many-spent _ _ _ _ before-last (wordless no-operation-words) (c .before .before .further-most .ensures .1) (c .before
-    .loop .inv) (omega arith)))
+    .loop .inv) (omega arith))
 
-abbrev term-cs : ℕ → List Callee
-term-cs t = kind-here ∷ is-monadic ∷ below monad-rank t ∷ below whole-rank t ∷ []
+abbrev pub term-cs : ℕ → Calls cycle.Lts-term.Claims
+term-cs t = calls-4 kind-here is-monadic (below monad-rank t) (below whole-rank t)
 
-term-returns : (t : ℕ) → cycle.Lts-term.Need-returns (claims-4 (term-cs t)) (at term-rank t) (term-rank .post)
+term-returns : (t : ℕ) → cycle.Lts-term.Need-returns (term-cs t .claims) (at term-rank t) (term-rank .post)
 term-returns t c =
     let after-monad = c .before .before in let after-if1 = after-monad .before .before in let after-is-monadic = after-if1 .before in let
-    after-kind-here = after-is-monadic .before in operand-monadic _ (after-kind-here .kind-here .ensures) (after-is-monadic .is-monadic .ensures)
-    (after-if1 .if1 .taken) (after-monad .monad .ensures)
+    after-kind-here = after-is-monadic .before in operand-monadic _ (after-kind-here .kind-here .ensures .1)
+    (after-is-monadic .is-monadic .ensures .1) (after-if1 .if1 .taken) (after-monad .monad .ensures .1)
 
-term-returns-2 : (t : ℕ) → cycle.Lts-term.Need-returns-2 (claims-4 (term-cs t)) (at term-rank t) (term-rank .post)
+term-returns-2 : (t : ℕ) → cycle.Lts-term.Need-returns-2 (term-cs t .claims) (at term-rank t) (term-rank .post)
 term-returns-2 t c =
     let after-whole = c .before .before in let after-if1 = after-whole .before .before in let after-is-monadic = after-if1 .before in let
-    after-kind-here = after-is-monadic .before in operand-suffixed _ (after-kind-here .kind-here .ensures) (after-is-monadic .is-monadic .ensures)
-    (after-if1 .if1 .left) (after-whole .whole .ensures)
+    after-kind-here = after-is-monadic .before in operand-suffixed _ (after-kind-here .kind-here .ensures .1)
+    (after-is-monadic .is-monadic .ensures .1) (after-if1 .if1 .left) (after-whole .whole .ensures .1)
 
-pub term-ok : {M : Type 1} (t : ℕ) → cycle.Lts-term.Closed (claims-4 (term-cs t)) (at term-rank t) (term-rank .post) M
+pub term-ok : {M : Type 1} (t : ℕ) → cycle.Lts-term.Closed (term-cs t .claims) (at term-rank t) (term-rank .post) M
 term-ok t =
-    cycle.Lts-term.spec (claims-4 (term-cs t)) (at term-rank t) (term-rank .post) (λ c κs. omega arith) (λ c κs. tt)
+    cycle.Lts-term.spec (term-cs t .claims) (at term-rank t) (term-rank .post) (λ c κs. omega arith) (λ c κs. tt)
     (λ c κs. let if1 = c .before in let is-monadic = if1 .before in let start = is-monadic .before .before .before .before in pair (omega arith) (pair
-    (start .pre .1) (monadic-positive _ (is-monadic .is-monadic .ensures) (if1 .if1 .taken)))) (λ c κs. omega arith) (λ c. search needs)
+    (start .pre .1) (monadic-positive _ (is-monadic .is-monadic .ensures .1) (if1 .if1 .taken)))) (λ c κs. omega arith) (λ c. search needs)
     (term-returns t) (λ c. search needs) (term-returns-2 t)
 
-abbrev monad-cs : ℕ → List Callee
-monad-cs t = refuse ∷ free-of ∷ place-here ∷ expect ∷ reach-of ∷ below expr-rank t ∷ node ∷ []
+abbrev pub monad-cs : ℕ → Calls cycle.Lts-monad.Claims
+monad-cs t = calls-7 refuse free-of place-here expect reach-of (below expr-rank t) node
 
-monad-returns-2 : (t : ℕ) → cycle.Lts-monad.Need-returns-2 (claims-7 (asked monad-cs t)) (at monad-rank t) (monad-rank .post)
+monad-returns-2 : (t : ℕ) → cycle.Lts-monad.Need-returns-2 (monad-cs t .claims) (at monad-rank t) (monad-rank .post)
 monad-returns-2 t c =
     let after-node = c .before .before in let after-expr = after-node .before .before .before .before in let after-reach-of = after-expr .before in
     let after-expect = after-reach-of .before .before in let after-place-here = after-expect .before .before in let after-free-of = after-place-here
@@ -194,11 +190,10 @@ monad-returns-2 t c =
     (start .pre .1 .1) (after-reach-of .reach-of .ensures .1 .0) (after-expect .expect .ensures .1 .1 src l) (after-expr .expr .ensures .1 .1 src l)
     (after-node .node .ensures .1 .1))
 
-pub monad-ok : {M : Type 1} (t : ℕ) → cycle.Lts-monad.Closed (claims-7 (monad-cs t)) (at monad-rank t) (monad-rank .post) M
+pub monad-ok : {M : Type 1} (t : ℕ) → cycle.Lts-monad.Closed (monad-cs t .claims) (at monad-rank t) (monad-rank .post) M
 monad-ok t =
-    knowing (monad-cs t) _
-    (cycle.Lts-monad.spec (claims-7 (asked monad-cs t)) (at monad-rank t) (monad-rank .post) (λ c κs. omega arith) (λ c. search needs)
+    cycle.Lts-monad.spec (monad-cs t .claims) (at monad-rank t) (monad-rank .post) (λ c κs. omega arith) (λ c. search needs)
     (λ c. monadic-shut _ (c .before .before .if1 .taken) (c .refuse .ensures .1)) (λ c κs. tt) (λ c κs. omega arith) (λ c κs. omega arith)
     (λ c. omega arith) (λ c κs. tt) (λ c κs. pair (omega arith) (pair (past-symbol refl (c .before .before .expect .ensures)) (omega arith)))
     (λ c κs. ready-leaves (c .before .before .before .expr .ensures .1 .0) (c .before .before .before .expr .kept .0) refl (past-symbol refl (c
-    .before .before .before .before .before .before .expect .ensures))) (λ c. search needs) (monad-returns-2 t))
+    .before .before .before .before .before .before .expect .ensures))) (λ c. search needs) (monad-returns-2 t)

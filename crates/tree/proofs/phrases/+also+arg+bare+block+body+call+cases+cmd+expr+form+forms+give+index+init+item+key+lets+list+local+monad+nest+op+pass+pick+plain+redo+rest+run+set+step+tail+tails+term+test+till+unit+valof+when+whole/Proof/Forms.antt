@@ -2,7 +2,7 @@
 use Rattle.tree.proofs.phrases.+also+arg+bare+block+body+call+cases+cmd+expr+form+forms+give+index+init+item+key+lets+list+local+monad+nest+op+pass+pick+plain+redo+rest+run+set+step+tail+tails+term+test+till+unit+valof+when+whole as cycle
 use Rattle.language.specs.Tree as T
 use Rattle.language.specs.Commands as C
-use Rattle.laws.proofs.Basics.{[], _∷_, List, ℕ, refl, sym, ap, _∙_, arith, needs}
+use Rattle.laws.proofs.Basics.{ℕ, refl, sym, ap, _∙_, arith, needs}
 use Rattle.language.specs.Binding.{isRepeat}
 use Rattle.language.specs.Grammar.{within, readers}
 use Rattle.language.specs.Reader.{manyUpTo}
@@ -21,37 +21,36 @@ use Rattle.tree.proofs.Steps.{pair, goes-on, adds-on, refuses-on, _then
 use Rattle.tree.proofs.Symbols.{lies-still}
 use Rattle.tree.specs.Encoding.{encodeRepeats}
 use Rattle.tree.specs.Reads.{freeOf}
-use Rattle.tree.proofs.Asked.{Callee, knowing}
-use cycle.Proof.Ranks.{also-rank, arg-rank, asked, at, bare-rank, begin-item, begins-command, below, block-rank, body-rank, cases-rank, claims-11}
-use cycle.Proof.Ranks.{claims-4, claims-5, claims-6, claims-7, claims-8, cmd-rank, expect, expr-rank, form-rank, forms-rank, free-of, give-rank}
+use cycle.Proof.Ranks.{Calls, also-rank, arg-rank, at, bare-rank, begin-item, begins-command, below, block-rank, body-rank, calls-11, calls-4}
+use cycle.Proof.Ranks.{calls-5, calls-6, calls-7, calls-8, cases-rank, cmd-rank, expect, expr-rank, form-rank, forms-rank, free-of, give-rank}
 use cycle.Proof.Ranks.{goes-on-assignment, is-call, is-guard, is-label, is-leave, is-repeat, kind-here, label, labels, leave, minus, node, pick-rank}
 use cycle.Proof.Ranks.{place-here, plain-rank, redo-rank, refuse, rest-rank, set-rank, set-size, step-rank, test-rank, when-rank}
 
-abbrev cmd-cs : ℕ → List Callee
-cmd-cs t = kind-here ∷ is-label ∷ below cases-rank t ∷ below body-rank t ∷ []
+abbrev pub cmd-cs : ℕ → Calls cycle.Lts-cmd.Claims
+cmd-cs t = calls-4 kind-here is-label (below cases-rank t) (below body-rank t)
 
-cmd-returns : (t : ℕ) → cycle.Lts-cmd.Need-returns (claims-4 (cmd-cs t)) (at cmd-rank t) (cmd-rank .post)
+cmd-returns : (t : ℕ) → cycle.Lts-cmd.Need-returns (cmd-cs t .claims) (at cmd-rank t) (cmd-rank .post)
 cmd-returns t c =
     let after-cases = c .before .before in let after-if1 = after-cases .before .before in let after-is-label = after-if1 .before in let
-    after-kind-here = after-is-label .before in pair (after-cases .cases .ensures .0)
-    (λ src l. after-cases .cases .ensures .1 src l (after-kind-here .kind-here .ensures src l) (sym (after-is-label .is-label .ensures) ∙ after-if1
-    .if1 .taken))
+    after-kind-here = after-is-label .before in pair (after-cases .cases .ensures .1 .0)
+    (λ src l. after-cases .cases .ensures .1 .1 src l (after-kind-here .kind-here .ensures .1 src l) (sym (after-is-label .is-label .ensures .1) ∙
+    after-if1 .if1 .taken))
 
-cmd-returns-2 : (t : ℕ) → cycle.Lts-cmd.Need-returns-2 (claims-4 (cmd-cs t)) (at cmd-rank t) (cmd-rank .post)
+cmd-returns-2 : (t : ℕ) → cycle.Lts-cmd.Need-returns-2 (cmd-cs t .claims) (at cmd-rank t) (cmd-rank .post)
 cmd-returns-2 t c =
     let after-body = c .before .before in let after-if1 = after-body .before .before in let after-is-label = after-if1 .before in let after-kind-here
-    = after-is-label .before in command-plain _ (after-kind-here .kind-here .ensures) (after-is-label .is-label .ensures) (after-if1 .if1 .left)
-    (after-body .body .ensures)
+    = after-is-label .before in command-plain _ (after-kind-here .kind-here .ensures .1) (after-is-label .is-label .ensures .1) (after-if1 .if1 .left)
+    (after-body .body .ensures .1)
 
-pub cmd-ok : {M : Type 1} (t : ℕ) → cycle.Lts-cmd.Closed (claims-4 (cmd-cs t)) (at cmd-rank t) (cmd-rank .post) M
+pub cmd-ok : {M : Type 1} (t : ℕ) → cycle.Lts-cmd.Closed (cmd-cs t .claims) (at cmd-rank t) (cmd-rank .post) M
 cmd-ok t =
-    cycle.Lts-cmd.spec (claims-4 (cmd-cs t)) (at cmd-rank t) (cmd-rank .post) (λ c κs. omega arith) (λ c κs. tt) (λ c κs. omega arith)
+    cycle.Lts-cmd.spec (cmd-cs t .claims) (at cmd-rank t) (cmd-rank .post) (λ c κs. omega arith) (λ c κs. tt) (λ c κs. omega arith)
     (λ c. search needs) (cmd-returns t) (λ c κs. omega arith) (λ c. search needs) (cmd-returns-2 t)
 
-abbrev cases-cs : ℕ → List Callee
-cases-cs t = free-of ∷ label ∷ labels ∷ minus ∷ below body-rank t ∷ node ∷ []
+abbrev pub cases-cs : ℕ → Calls cycle.Lts-cases.Claims
+cases-cs t = calls-6 free-of label labels minus (below body-rank t) node
 
-cases-returns : (t : ℕ) → cycle.Lts-cases.Need-returns (claims-6 (asked cases-cs t)) (at cases-rank t) (cases-rank .post)
+cases-returns : (t : ℕ) → cycle.Lts-cases.Need-returns (cases-cs t .claims) (at cases-rank t) (cases-rank .post)
 cases-returns t c =
     let after-node = c .before .before in let after-body = after-node .before .before .before .before in let after-minus = after-body .before .before
     in let after-free-of2 = after-minus .before in let after-labels = after-free-of2 .before .before .before .before in let after-label = after-labels
@@ -62,10 +61,9 @@ cases-returns t c =
     .ensures .1) (after-free-of2 .free-of2 .ensures .1) (after-labels .labels .kept .0 ∙ after-label .label .kept .0)) (after-label .label .ensures .1
     .1 src l k) (after-labels .labels .ensures .1 .1 src l₁) (after-body .body .ensures .1 .1 src l₂) (after-node .node .ensures .1 .1)))
 
-pub cases-ok : {M : Type 1} (t : ℕ) → cycle.Lts-cases.Closed (claims-6 (cases-cs t)) (at cases-rank t) (cases-rank .post) M
+pub cases-ok : {M : Type 1} (t : ℕ) → cycle.Lts-cases.Closed (cases-cs t .claims) (at cases-rank t) (cases-rank .post) M
 cases-ok t =
-    knowing (cases-cs t) _
-    (cycle.Lts-cases.spec (claims-6 (asked cases-cs t)) (at cases-rank t) (cases-rank .post) (λ c κs. tt) (λ c κs. omega arith)
+    cycle.Lts-cases.spec (cases-cs t .claims) (at cases-rank t) (cases-rank .post) (λ c κs. tt) (λ c κs. omega arith)
     (λ c κs. let e = c .before .before .before .label in ready-leaves (e .ensures .1 .0) (e .kept .0) refl (e .ensures .0)) (λ c κs. tt) (λ c κs. tt)
     (λ c κs. let e = c .before .before .before .before .before .before .labels in pair (omega arith) (ready-leaves (e .ensures .1 .0) (e .kept .0)
     refl (e .ensures .0))) (λ c. let body = c .before .before .before in let minus = body .before .before in let free-of2 = minus .before in omega
@@ -73,45 +71,45 @@ cases-ok t =
     (λ c κs. let body = c .before .before .before in let labels = body .before .before .before .before .before .before .before in let label = labels
     .before .before .before .before in ready-leaves (body .body .ensures .1 .0) (body .body .kept .0) refl (ready-leaves (labels .labels .ensures .1
     .0) (labels .labels .kept .0) refl (ready-leaves (label .label .ensures .1 .0) (label .label .kept .0) refl (label .label .ensures .0))))
-    (λ c. search needs) (cases-returns t))
+    (λ c. search needs) (cases-returns t)
 
-abbrev body-cs : ℕ → List Callee
-body-cs t = kind-here ∷ begins-command ∷ refuse ∷ below redo-rank t ∷ []
+abbrev pub body-cs : ℕ → Calls cycle.Lts-body.Claims
+body-cs t = calls-4 kind-here begins-command refuse (below redo-rank t)
 
-body-returns : (t : ℕ) → cycle.Lts-body.Need-returns (claims-4 (body-cs t)) (at body-rank t) (body-rank .post)
+body-returns : (t : ℕ) → cycle.Lts-body.Need-returns (body-cs t .claims) (at body-rank t) (body-rank .post)
 body-returns t c =
     let after-if2 = c .before .before in let after-if1 = after-if2 .before in let after-begins-command = after-if1 .before in let after-kind-here =
-    after-begins-command .before in body-shut _ _ (after-kind-here .kind-here .ensures) (after-begins-command .begins-command .ensures)
-    (after-if1 .if1 .taken) (after-if2 .if2 .taken) (c .refuse .ensures)
+    after-begins-command .before in body-shut _ _ (after-kind-here .kind-here .ensures .1) (after-begins-command .begins-command .ensures .1)
+    (after-if1 .if1 .taken) (after-if2 .if2 .taken) (c .refuse .ensures .1)
 
-body-returns-2 : (t : ℕ) → cycle.Lts-body.Need-returns-2 (claims-4 (body-cs t)) (at body-rank t) (body-rank .post)
+body-returns-2 : (t : ℕ) → cycle.Lts-body.Need-returns-2 (body-cs t .claims) (at body-rank t) (body-rank .post)
 body-returns-2 t c =
     let after-redo = c .before .before in let after-if2 = after-redo .before .before in let after-if1 = after-if2 .before in let after-begins-command
-    = after-if1 .before in let after-kind-here = after-begins-command .before in body-open _ _ (after-kind-here .kind-here .ensures)
-    (after-begins-command .begins-command .ensures) (after-if1 .if1 .taken) (after-if2 .if2 .left) (after-redo .redo .ensures)
+    = after-if1 .before in let after-kind-here = after-begins-command .before in body-open _ _ (after-kind-here .kind-here .ensures .1)
+    (after-begins-command .begins-command .ensures .1) (after-if1 .if1 .taken) (after-if2 .if2 .left) (after-redo .redo .ensures .1)
 
-body-returns-3 : (t : ℕ) → cycle.Lts-body.Need-returns-3 (claims-4 (body-cs t)) (at body-rank t) (body-rank .post)
+body-returns-3 : (t : ℕ) → cycle.Lts-body.Need-returns-3 (body-cs t .claims) (at body-rank t) (body-rank .post)
 body-returns-3 t c =
     let after-if1 = c .before in let after-begins-command = after-if1 .before in let after-kind-here = after-begins-command .before in let start =
-    after-kind-here .before .before .before in body-empty _ _ (after-kind-here .kind-here .ensures) (after-begins-command .begins-command .ensures)
-    (after-if1 .if1 .left) (start .pre .1) (c .if3 .taken)
+    after-kind-here .before .before .before in body-empty _ _ (after-kind-here .kind-here .ensures .1)
+    (after-begins-command .begins-command .ensures .1) (after-if1 .if1 .left) (start .pre .1) (c .if3 .taken)
 
-body-returns-4 : (t : ℕ) → cycle.Lts-body.Need-returns-4 (claims-4 (body-cs t)) (at body-rank t) (body-rank .post)
+body-returns-4 : (t : ℕ) → cycle.Lts-body.Need-returns-4 (body-cs t .claims) (at body-rank t) (body-rank .post)
 body-returns-4 t c =
     let after-if3 = c .before .before in let after-if1 = after-if3 .before in let after-begins-command = after-if1 .before in let after-kind-here =
-    after-begins-command .before in body-none _ _ (after-kind-here .kind-here .ensures) (after-begins-command .begins-command .ensures)
-    (after-if1 .if1 .left) (after-if3 .if3 .left) (c .refuse2 .ensures)
+    after-begins-command .before in body-none _ _ (after-kind-here .kind-here .ensures .1) (after-begins-command .begins-command .ensures .1)
+    (after-if1 .if1 .left) (after-if3 .if3 .left) (c .refuse2 .ensures .1)
 
-pub body-ok : {M : Type 1} (t : ℕ) → cycle.Lts-body.Closed (claims-4 (body-cs t)) (at body-rank t) (body-rank .post) M
+pub body-ok : {M : Type 1} (t : ℕ) → cycle.Lts-body.Closed (body-cs t .claims) (at body-rank t) (body-rank .post) M
 body-ok t =
-    cycle.Lts-body.spec (claims-4 (body-cs t)) (at body-rank t) (body-rank .post) (λ c κs. omega arith) (λ c κs. tt) (λ c κs. omega arith)
+    cycle.Lts-body.spec (body-cs t .claims) (at body-rank t) (body-rank .post) (λ c κs. omega arith) (λ c κs. tt) (λ c κs. omega arith)
     (λ c. search needs) (body-returns t) (λ c. omega arith) (λ c κs. omega arith) (λ c. search needs) (body-returns-2 t) (λ c. search needs)
     (body-returns-3 t) (λ c κs. omega arith) (λ c. search needs) (body-returns-4 t)
 
-abbrev redo-cs : ℕ → List Callee
-redo-cs t = free-of ∷ below plain-rank t ∷ kind-here ∷ is-repeat ∷ minus ∷ below form-rank t ∷ below forms-rank t ∷ node ∷ []
+abbrev pub redo-cs : ℕ → Calls cycle.Lts-redo.Claims
+redo-cs t = calls-8 free-of (below plain-rank t) kind-here is-repeat minus (below form-rank t) (below forms-rank t) node
 
-redo-returns : (t : ℕ) → cycle.Lts-redo.Need-returns (claims-8 (asked redo-cs t)) (at redo-rank t) (redo-rank .post)
+redo-returns : (t : ℕ) → cycle.Lts-redo.Need-returns (redo-cs t .claims) (at redo-rank t) (redo-rank .post)
 redo-returns t c =
     let after-node = c .before .before in let after-forms = after-node .before .before .before .before in let after-form = after-forms .before .before
     .before .before in let after-minus = after-form .before .before in let after-free-of2 = after-minus .before in let after-if1 = after-free-of2
@@ -124,17 +122,16 @@ redo-returns t c =
     .minus .ensures .1) (after-free-of2 .free-of2 .ensures .1) (after-plain .plain .kept .0)) (after-form .form .ensures .1 .1 src l₁ (after-kind-here
     .kind-here .ensures .1 src l₁)) (after-forms .forms .ensures .1 .1 src l₂) (after-node .node .ensures .1 .1)))
 
-redo-returns-2 : (t : ℕ) → cycle.Lts-redo.Need-returns-2 (claims-8 (asked redo-cs t)) (at redo-rank t) (redo-rank .post)
+redo-returns-2 : (t : ℕ) → cycle.Lts-redo.Need-returns-2 (redo-cs t .claims) (at redo-rank t) (redo-rank .post)
 redo-returns-2 t c =
     let after-is-repeat = c .before in let after-kind-here = after-is-repeat .before in let after-plain = after-kind-here .before .before .before
     .before in pair (leaves-less (after-plain .plain .ensures .1 .0) refl)
     (λ src l. (let l₁ = lies-still l (after-plain .plain .ensures .1 .0 .kept) in repeated-one l₁ 0 _ (after-kind-here .kind-here .ensures .1 src l₁)
     (after-plain .plain .ensures .1 .1 src l) (sym (after-is-repeat .is-repeat .ensures .1) ∙ c .if1 .left)))
 
-pub redo-ok : {M : Type 1} (t : ℕ) → cycle.Lts-redo.Closed (claims-8 (redo-cs t)) (at redo-rank t) (redo-rank .post) M
+pub redo-ok : {M : Type 1} (t : ℕ) → cycle.Lts-redo.Closed (redo-cs t .claims) (at redo-rank t) (redo-rank .post) M
 redo-ok t =
-    knowing (redo-cs t) _
-    (cycle.Lts-redo.spec (claims-8 (asked redo-cs t)) (at redo-rank t) (redo-rank .post) (λ c κs. tt) (λ c κs. omega arith)
+    cycle.Lts-redo.spec (redo-cs t .claims) (at redo-rank t) (redo-rank .post) (λ c κs. tt) (λ c κs. omega arith)
     (λ c κs. let e = c .before .before .before .plain in past-part refl (e .ensures) (e .kept .0)) (λ c κs. tt) (λ c κs. tt) (λ c κs. tt)
     (λ c κs. let if1 = c .before .before .before .before in let is-repeat = if1 .before in let kind-here = is-repeat .before in let start = kind-here
     .before .before .before .before .before .before .before .before .before in pair (omega (arith, start .pre .0)) (pair (kind-here .kind-here
@@ -149,10 +146,10 @@ redo-ok t =
     (λ c κs. let forms = c .before .before .before in let form = forms .before .before .before .before in let plain = form .before .before .before
     .before .before .before .before .before .before .before .before in ready-leaves (forms .forms .ensures .1 .0) (forms .forms .kept .0) refl
     (ready-leaves (form .form .ensures .1 .0) (form .form .kept .0) refl (ready-leaves (plain .plain .ensures .1 .0) (plain .plain .kept .0) refl
-    (plain .plain .ensures .0 .1)))) (λ c. search needs) (redo-returns t) (λ c. search needs) (redo-returns-2 t))
+    (plain .plain .ensures .0 .1)))) (λ c. search needs) (redo-returns t) (λ c. search needs) (redo-returns-2 t)
 
-abbrev forms-cs : ℕ → List Callee
-forms-cs t = minus ∷ kind-here ∷ is-repeat ∷ below form-rank t ∷ []
+abbrev pub forms-cs : ℕ → Calls cycle.Lts-forms.Claims
+forms-cs t = calls-4 minus kind-here is-repeat (below form-rank t)
 
 abbrev forms-inv : cycle.Lts-forms.InvT-loop
 forms-inv s₀ n levels turns₀ a₀ s turns a =
@@ -162,40 +159,40 @@ forms-inv s₀ n levels turns₀ a₀ s turns a =
 abbrev forms-turns : cycle.Lts-forms.MeasureT-loop
 forms-turns s₀ n levels turns₀ a₀ s turns a = turns
 
-forms-loop-again : (t : ℕ) → cycle.Lts-forms.Need-loop-again (claims-4 (forms-cs t)) (at forms-rank t) (forms-rank .post) forms-inv forms-turns
+forms-loop-again : (t : ℕ) → cycle.Lts-forms.Need-loop-again (forms-cs t .claims) (at forms-rank t) (forms-rank .post) forms-inv forms-turns
 forms-loop-again t c =
     let after-form = c .before .before in let after-if1 = after-form .before .before in let after-is-repeat = after-if1 .before in let after-kind-here
     = after-is-repeat .before in let in-loop = after-kind-here .before .before .before in many-turns _ _ _ _ before-next (in-loop .loop .inv)
-    (after-kind-here .kind-here .ensures) (sym (after-is-repeat .is-repeat .ensures) ∙ after-if1 .if1 .taken) (after-form .form .ensures)
+    (after-kind-here .kind-here .ensures .1) (sym (after-is-repeat .is-repeat .ensures .1) ∙ after-if1 .if1 .taken) (after-form .form .ensures .1)
     (after-form .form .kept .0) (omega arith)
 
-forms-returns : (t : ℕ) → cycle.Lts-forms.Need-returns (claims-4 (forms-cs t)) (at forms-rank t) (forms-rank .post) forms-inv forms-turns
+forms-returns : (t : ℕ) → cycle.Lts-forms.Need-returns (forms-cs t .claims) (at forms-rank t) (forms-rank .post) forms-inv forms-turns
 forms-returns t c =
     let after-is-repeat = c .before in let after-kind-here = after-is-repeat .before in let in-loop = after-kind-here .before .before .before in let
-    after-minus = in-loop .before in many-ends _ _ _ _ before-last (wordless no-repeat-words) (after-minus .minus .ensures) (in-loop .loop .inv)
-    (after-kind-here .kind-here .ensures) (sym (after-is-repeat .is-repeat .ensures) ∙ c .if1 .left)
+    after-minus = in-loop .before in many-ends _ _ _ _ before-last (wordless no-repeat-words) (after-minus .minus .ensures .1) (in-loop .loop .inv)
+    (after-kind-here .kind-here .ensures .1) (sym (after-is-repeat .is-repeat .ensures .1) ∙ c .if1 .left)
 
-pub forms-ok : {M : Type 1} (t : ℕ) → cycle.Lts-forms.Closed (claims-4 (forms-cs t)) (at forms-rank t) (forms-rank .post) M
+pub forms-ok : {M : Type 1} (t : ℕ) → cycle.Lts-forms.Closed (forms-cs t .claims) (at forms-rank t) (forms-rank .post) M
 forms-ok t =
-    cycle.Lts-forms.spec (claims-4 (forms-cs t)) (at forms-rank t) (forms-rank .post) forms-inv forms-turns (λ c κs. tt)
+    cycle.Lts-forms.spec (forms-cs t .claims) (at forms-rank t) (forms-rank .post) forms-inv forms-turns (λ c κs. tt)
     (λ c. so-begins (c .before .before .pre .1) before-first)
     (λ c κs. ready-leaves (c .before .before .loop .inv .room) (c .before .before .loop .inv .same) refl (c .before .before .before .before .before
     .pre .1)) (λ c κs. tt) (λ c κs. let if1 = c .before in let is-repeat = if1 .before in let at-loop = is-repeat .before .before .before .before in
     let start = at-loop .before .before .before in pair (omega arith) (pair (ready-leaves (at-loop .loop .inv .room) (at-loop .loop .inv .same) refl
-    (start .pre .1)) (repeat-positive _ (is-repeat .is-repeat .ensures) (if1 .if1 .taken)))) (λ c. omega arith) (λ c. omega arith)
+    (start .pre .1)) (repeat-positive _ (is-repeat .is-repeat .ensures .1) (if1 .if1 .taken)))) (λ c. omega arith) (λ c. omega arith)
     (forms-loop-again t) (λ c. search needs) (forms-returns t) (λ c. search needs)
-    (λ c. many-spent _ _ _ _ before-last (wordless no-repeat-words) (c .before .before .minus .ensures) (c .before .loop .inv) (omega arith))
+    (λ c. many-spent _ _ _ _ before-last (wordless no-repeat-words) (c .before .before .minus .ensures .1) (c .before .loop .inv) (omega arith))
 
-abbrev form-cs : ℕ → List Callee
-form-cs t = free-of ∷ expect ∷ begin-item ∷ below expr-rank t ∷ set-size ∷ []
+abbrev pub form-cs : ℕ → Calls cycle.Lts-form.Claims
+form-cs t = calls-5 free-of expect begin-item (below expr-rank t) set-size
 
-form-returns : (t : ℕ) → cycle.Lts-form.Need-returns (claims-5 (asked form-cs t)) (at form-rank t) (form-rank .post)
+form-returns : (t : ℕ) → cycle.Lts-form.Need-returns (form-cs t .claims) (at form-rank t) (form-rank .post)
 form-returns t c =
     let after-begin-item = c .before .before .before in let after-expect = after-begin-item .before .before in pair
     (room-left (left (after-expect .expect .ensures .1 .0) less (after-begin-item .begin-item .ensures .1 .0)) refl)
     (λ src l k. repeat-read src 0 _ k (c .if1 .taken) (after-expect .expect .ensures .1 .1 src l) (after-begin-item .begin-item .ensures .1 .1))
 
-form-returns-2 : (t : ℕ) → cycle.Lts-form.Need-returns-2 (claims-5 (asked form-cs t)) (at form-rank t) (form-rank .post)
+form-returns-2 : (t : ℕ) → cycle.Lts-form.Need-returns-2 (form-cs t .claims) (at form-rank t) (form-rank .post)
 form-returns-2 t c =
     let after-set-size = c .before .before in let after-expr = after-set-size .before .before .before .before in let after-if1 = after-expr .before
     .before in let after-begin-item = after-if1 .before .before .before in let after-expect = after-begin-item .before .before in let after-free-of =
@@ -206,65 +203,64 @@ form-returns-2 t c =
     .begin-item .ensures .1 .1) (after-expr .expr .ensures .1 .1 src (lies-still l (after-begin-item .begin-item .ensures .1 .0 .kept)))
     (after-set-size .set-size .ensures .1 .1))
 
-pub form-ok : {M : Type 1} (t : ℕ) → cycle.Lts-form.Closed (claims-5 (form-cs t)) (at form-rank t) (form-rank .post) M
+pub form-ok : {M : Type 1} (t : ℕ) → cycle.Lts-form.Closed (form-cs t .claims) (at form-rank t) (form-rank .post) M
 form-ok t =
-    knowing (form-cs t) _
-    (cycle.Lts-form.spec (claims-5 (asked form-cs t)) (at form-rank t) (form-rank .post) (λ c κs. tt) (λ c κs. omega arith)
+    cycle.Lts-form.spec (form-cs t .claims) (at form-rank t) (form-rank .post) (λ c κs. tt) (λ c κs. omega arith)
     (λ c κs. past-symbol refl (c .before .expect .ensures)) (λ c. search needs) (form-returns t)
     (λ c κs. pair (omega arith) (pair (ready-takes (c .before .before .before .before .begin-item .ensures .1 .0) (c .before .before .before .before
     .begin-item .kept .0) (c .before .before .before .before .begin-item .ensures .0)) (omega arith)))
     (λ c κs. let expr = c .before .before .before in let expect = expr .before .before .before .before .before .before .before in let free-of = expect
     .before .before in pair (past-expression refl (expr .expr .ensures) (expr .expr .kept .0)) (item-low (free-of .free-of .ensures .1) (expect
-    .expect .ensures .0 .0))) (λ c. search needs) (form-returns-2 t))
+    .expect .ensures .0 .0))) (λ c. search needs) (form-returns-2 t)
 
-abbrev plain-cs : ℕ → List Callee
+abbrev pub plain-cs : ℕ → Calls cycle.Lts-plain.Claims
 plain-cs t =
-    kind-here ∷ is-guard ∷ below when-rank t ∷ is-leave ∷ leave ∷ below test-rank t ∷ below step-rank t ∷ below pick-rank t ∷ below give-rank t ∷
-    below block-rank t ∷ below bare-rank t ∷ []
+    calls-11 kind-here is-guard (below when-rank t) is-leave leave (below test-rank t) (below step-rank t) (below pick-rank t) (below give-rank t)
+    (below block-rank t) (below bare-rank t)
 
-plain-returns : (t : ℕ) → cycle.Lts-plain.Need-returns (claims-11 (plain-cs t)) (at plain-rank t) (plain-rank .post)
+plain-returns : (t : ℕ) → cycle.Lts-plain.Need-returns (plain-cs t .claims) (at plain-rank t) (plain-rank .post)
 plain-returns t c =
     let after-when = c .before .before in let after-if1 = after-when .before .before in let after-is-guard = after-if1 .before in let after-kind-here
-    = after-is-guard .before in unlabelled-guarded _ (after-kind-here .kind-here .ensures) (after-is-guard .is-guard .ensures) (after-if1 .if1 .taken)
-    (after-when .when .ensures)
+    = after-is-guard .before in unlabelled-guarded _ (after-kind-here .kind-here .ensures .1) (after-is-guard .is-guard .ensures .1)
+    (after-if1 .if1 .taken) (after-when .when .ensures .1)
 
-plain-returns-2 : (t : ℕ) → cycle.Lts-plain.Need-returns-2 (claims-11 (plain-cs t)) (at plain-rank t) (plain-rank .post)
+plain-returns-2 : (t : ℕ) → cycle.Lts-plain.Need-returns-2 (plain-cs t .claims) (at plain-rank t) (plain-rank .post)
 plain-returns-2 t c =
     let after-leave = c .before .before in let after-if2 = after-leave .before .before in let after-is-leave = after-if2 .before in let after-if1 =
     after-is-leave .before in let after-is-guard = after-if1 .before in let after-kind-here = after-is-guard .before in unlabelled-leave _
-    (after-kind-here .kind-here .ensures) (after-is-guard .is-guard .ensures) (after-if1 .if1 .left) (after-is-leave .is-leave .ensures)
-    (after-if2 .if2 .taken) (after-leave .leave .ensures)
+    (after-kind-here .kind-here .ensures .1) (after-is-guard .is-guard .ensures .1) (after-if1 .if1 .left) (after-is-leave .is-leave .ensures .1)
+    (after-if2 .if2 .taken) (after-leave .leave .ensures .1)
 
-plain-returns-8 : (t : ℕ) → cycle.Lts-plain.Need-returns-8 (claims-11 (plain-cs t)) (at plain-rank t) (plain-rank .post)
+plain-returns-8 : (t : ℕ) → cycle.Lts-plain.Need-returns-8 (plain-cs t .claims) (at plain-rank t) (plain-rank .post)
 plain-returns-8 t c =
     let after-bare = c .before .before in let after-match = after-bare .before .before in let after-if2 = after-match .before in let after-is-leave =
     after-if2 .before in let after-if1 = after-is-leave .before in let after-is-guard = after-if1 .before in let after-kind-here = after-is-guard
-    .before in unlabelled-other _ (after-kind-here .kind-here .ensures) (after-is-guard .is-guard .ensures) (after-if1 .if1 .left)
-    (after-is-leave .is-leave .ensures) (after-if2 .if2 .left) (after-match .match .rest) (after-bare .bare .ensures)
+    .before in unlabelled-other _ (after-kind-here .kind-here .ensures .1) (after-is-guard .is-guard .ensures .1) (after-if1 .if1 .left)
+    (after-is-leave .is-leave .ensures .1) (after-if2 .if2 .left) (after-match .match .rest) (after-bare .bare .ensures .1)
 
-pub plain-ok : {M : Type 1} (t : ℕ) → cycle.Lts-plain.Closed (claims-11 (plain-cs t)) (at plain-rank t) (plain-rank .post) M
+pub plain-ok : {M : Type 1} (t : ℕ) → cycle.Lts-plain.Closed (plain-cs t .claims) (at plain-rank t) (plain-rank .post) M
 plain-ok t =
-    cycle.Lts-plain.spec (claims-11 (plain-cs t)) (at plain-rank t) (plain-rank .post) (λ c κs. omega arith) (λ c κs. tt)
+    cycle.Lts-plain.spec (plain-cs t .claims) (at plain-rank t) (plain-rank .post) (λ c κs. omega arith) (λ c κs. tt)
     (λ c κs. let if1 = c .before in let is-guard = if1 .before in let start = is-guard .before .before .before .before in pair (omega arith) (pair
-    (start .pre .1) (guard-positive _ (is-guard .is-guard .ensures) (if1 .if1 .taken)))) (λ c. search needs) (plain-returns t) (λ c κs. tt)
+    (start .pre .1) (guard-positive _ (is-guard .is-guard .ensures .1) (if1 .if1 .taken)))) (λ c. search needs) (plain-returns t) (λ c κs. tt)
     (λ c κs. let if2 = c .before in let is-leave = if2 .before in let start = is-leave .before .before .before .before .before .before in pair (start
-    .pre .1) (leave-positive _ (is-leave .is-leave .ensures) (if2 .if2 .taken))) (λ c. search needs) (plain-returns-2 t) (λ c κs. omega arith)
+    .pre .1) (leave-positive _ (is-leave .is-leave .ensures .1) (if2 .if2 .taken))) (λ c. search needs) (plain-returns-2 t) (λ c κs. omega arith)
     (λ c κs. omega arith) (λ c κs. omega arith) (λ c κs. omega arith) (λ c κs. omega arith) (λ c κs. omega arith) (λ c. search needs)
-    (λ c. unlabelled-test _ (c .before .before .before .before .before .before .before .before .before .kind-here .ensures) (c .before .before .before
-    .before .match .keys1) (c .before .before .test .ensures)) (λ c. search needs)
-    (λ c. unlabelled-for _ (c .before .before .before .before .before .before .before .before .before .kind-here .ensures) (c .before .before .before
-    .before .match .keys2) (c .before .before .step .ensures)) (λ c. search needs)
-    (λ c. unlabelled-switchon _ (c .before .before .before .before .before .before .before .before .before .kind-here .ensures) (c .before .before
-    .before .before .match .keys3) (c .before .before .pick .ensures)) (λ c. search needs)
-    (λ c. unlabelled-resultis _ (c .before .before .before .before .before .before .before .before .before .kind-here .ensures) (c .before .before
-    .before .before .match .keys4) (c .before .before .give .ensures)) (λ c. search needs)
-    (λ c. unlabelled-block _ (c .before .before .before .before .before .before .before .before .before .kind-here .ensures) (c .before .before
-    .before .before .match .keys5) (c .before .before .block .ensures)) (λ c. search needs) (plain-returns-8 t)
+    (λ c. unlabelled-test _ (c .before .before .before .before .before .before .before .before .before .kind-here .ensures .1) (c .before .before
+    .before .before .match .keys1) (c .before .before .test .ensures .1)) (λ c. search needs)
+    (λ c. unlabelled-for _ (c .before .before .before .before .before .before .before .before .before .kind-here .ensures .1) (c .before .before
+    .before .before .match .keys2) (c .before .before .step .ensures .1)) (λ c. search needs)
+    (λ c. unlabelled-switchon _ (c .before .before .before .before .before .before .before .before .before .kind-here .ensures .1) (c .before .before
+    .before .before .match .keys3) (c .before .before .pick .ensures .1)) (λ c. search needs)
+    (λ c. unlabelled-resultis _ (c .before .before .before .before .before .before .before .before .before .kind-here .ensures .1) (c .before .before
+    .before .before .match .keys4) (c .before .before .give .ensures .1)) (λ c. search needs)
+    (λ c. unlabelled-block _ (c .before .before .before .before .before .before .before .before .before .kind-here .ensures .1) (c .before .before
+    .before .before .match .keys5) (c .before .before .block .ensures .1)) (λ c. search needs) (plain-returns-8 t)
 
-abbrev test-cs : ℕ → List Callee
-test-cs t = free-of ∷ expect ∷ below expr-rank t ∷ below cmd-rank t ∷ node ∷ []
+abbrev pub test-cs : ℕ → Calls cycle.Lts-test.Claims
+test-cs t = calls-5 free-of expect (below expr-rank t) (below cmd-rank t) node
 
-test-returns : (t : ℕ) → cycle.Lts-test.Need-returns (claims-5 (asked test-cs t)) (at test-rank t) (test-rank .post)
+test-returns : (t : ℕ) → cycle.Lts-test.Need-returns (test-cs t .claims) (at test-rank t) (test-rank .post)
 test-returns t c =
     let after-node = c .before .before in let after-cmd2 = after-node .before .before .before .before in let after-expect3 = after-cmd2 .before
     .before in let after-cmd = after-expect3 .before .before .before .before in let after-expect2 = after-cmd .before .before in let after-expr =
@@ -276,22 +272,21 @@ test-returns t c =
     src l) (after-expect2 .expect2 .ensures .1 .1 src l₂) (after-cmd .cmd .ensures .1 .1 src l₂) (after-expect3 .expect3 .ensures .1 .1 src l₄)
     (after-cmd2 .cmd2 .ensures .1 .1 src l₄) (after-node .node .ensures .1 .1)))
 
-pub test-ok : {M : Type 1} (t : ℕ) → cycle.Lts-test.Closed (claims-5 (test-cs t)) (at test-rank t) (test-rank .post) M
+pub test-ok : {M : Type 1} (t : ℕ) → cycle.Lts-test.Closed (test-cs t .claims) (at test-rank t) (test-rank .post) M
 test-ok t =
-    knowing (test-cs t) _
-    (cycle.Lts-test.spec (claims-5 (asked test-cs t)) (at test-rank t) (test-rank .post) (λ c κs. tt) (λ c κs. omega arith)
+    cycle.Lts-test.spec (test-cs t .claims) (at test-rank t) (test-rank .post) (λ c κs. tt) (λ c κs. omega arith)
     (λ c κs. pair (omega arith) (pair (past-symbol refl (c .before .expect .ensures)) (omega arith)))
     (λ c κs. let e = c .before .before .before .expr in pair (past-expression refl (e .ensures) (e .kept .0)) (omega arith))
     (λ c κs. pair (omega arith) (past-symbol refl (c .before .expect2 .ensures)))
     (λ c κs. let e = c .before .before .before .cmd in pair (past-part refl (e .ensures) (e .kept .0)) (omega arith))
     (λ c κs. pair (omega arith) (past-symbol refl (c .before .expect3 .ensures)))
     (λ c κs. ready-leaves (c .before .before .before .cmd2 .ensures .1 .0) (c .before .before .before .cmd2 .kept .0) refl (past-symbol refl (c
-    .before .before .before .before .before .expect3 .ensures))) (λ c. search needs) (test-returns t))
+    .before .before .before .before .before .expect3 .ensures))) (λ c. search needs) (test-returns t)
 
-abbrev when-cs : ℕ → List Callee
-when-cs t = free-of ∷ expect ∷ below expr-rank t ∷ below cmd-rank t ∷ node ∷ []
+abbrev pub when-cs : ℕ → Calls cycle.Lts-when.Claims
+when-cs t = calls-5 free-of expect (below expr-rank t) (below cmd-rank t) node
 
-when-returns : (t : ℕ) → cycle.Lts-when.Need-returns (claims-5 (asked when-cs t)) (at when-rank t) (when-rank .post)
+when-returns : (t : ℕ) → cycle.Lts-when.Need-returns (when-cs t .claims) (at when-rank t) (when-rank .post)
 when-returns t c =
     let after-node = c .before .before in let after-cmd = after-node .before .before .before .before in let after-expect2 = after-cmd .before .before
     in let after-expr = after-expect2 .before .before .before .before in let after-expect = after-expr .before .before in let after-free-of =
@@ -301,20 +296,19 @@ when-returns t c =
     (after-expect .expect .ensures .1 .1 src l) (after-expr .expr .ensures .1 .1 src l) (after-expect2 .expect2 .ensures .1 .1 src l₂) (after-cmd .cmd
     .ensures .1 .1 src l₂) (after-node .node .ensures .1 .1)))
 
-pub when-ok : {M : Type 1} (t : ℕ) → cycle.Lts-when.Closed (claims-5 (when-cs t)) (at when-rank t) (when-rank .post) M
+pub when-ok : {M : Type 1} (t : ℕ) → cycle.Lts-when.Closed (when-cs t .claims) (at when-rank t) (when-rank .post) M
 when-ok t =
-    knowing (when-cs t) _
-    (cycle.Lts-when.spec (claims-5 (asked when-cs t)) (at when-rank t) (when-rank .post) (λ c κs. tt) (λ c κs. omega arith)
+    cycle.Lts-when.spec (when-cs t .claims) (at when-rank t) (when-rank .post) (λ c κs. tt) (λ c κs. omega arith)
     (λ c κs. pair (omega arith) (pair (past-symbol refl (c .before .expect .ensures)) (omega arith)))
     (λ c κs. let e = c .before .before .before .expr in pair (past-expression refl (e .ensures) (e .kept .0)) (omega arith))
     (λ c κs. pair (omega arith) (past-symbol refl (c .before .expect2 .ensures)))
     (λ c κs. ready-leaves (c .before .before .before .cmd .ensures .1 .0) (c .before .before .before .cmd .kept .0) refl (past-symbol refl (c .before
-    .before .before .before .before .expect2 .ensures))) (λ c. search needs) (when-returns t))
+    .before .before .before .before .expect2 .ensures))) (λ c. search needs) (when-returns t)
 
-abbrev give-cs : ℕ → List Callee
-give-cs t = free-of ∷ place-here ∷ expect ∷ below expr-rank t ∷ node ∷ []
+abbrev pub give-cs : ℕ → Calls cycle.Lts-give.Claims
+give-cs t = calls-5 free-of place-here expect (below expr-rank t) node
 
-give-returns : (t : ℕ) → cycle.Lts-give.Need-returns (claims-5 (asked give-cs t)) (at give-rank t) (give-rank .post)
+give-returns : (t : ℕ) → cycle.Lts-give.Need-returns (give-cs t .claims) (at give-rank t) (give-rank .post)
 give-returns t c =
     let after-node = c .before .before in let after-expr = after-node .before .before .before .before in let after-expect = after-expr .before .before
     in let after-place-here = after-expect .before .before in let after-free-of = after-place-here .before .before in pair
@@ -322,18 +316,17 @@ give-returns t c =
     (λ src l. resultis-read l _ _ (after-free-of .free-of .ensures .1) (after-place-here .place-here .ensures .1 src l) (after-expect .expect .ensures
     .1 .1 src l) (after-expr .expr .ensures .1 .1 src l) (after-node .node .ensures .1 .1))
 
-pub give-ok : {M : Type 1} (t : ℕ) → cycle.Lts-give.Closed (claims-5 (give-cs t)) (at give-rank t) (give-rank .post) M
+pub give-ok : {M : Type 1} (t : ℕ) → cycle.Lts-give.Closed (give-cs t .claims) (at give-rank t) (give-rank .post) M
 give-ok t =
-    knowing (give-cs t) _
-    (cycle.Lts-give.spec (claims-5 (asked give-cs t)) (at give-rank t) (give-rank .post) (λ c κs. tt) (λ c κs. omega arith) (λ c κs. omega arith)
+    cycle.Lts-give.spec (give-cs t .claims) (at give-rank t) (give-rank .post) (λ c κs. tt) (λ c κs. omega arith) (λ c κs. omega arith)
     (λ c κs. pair (omega arith) (pair (past-symbol refl (c .before .expect .ensures)) (omega arith)))
     (λ c κs. ready-leaves (c .before .before .before .expr .ensures .1 .0) (c .before .before .before .expr .kept .0) refl (past-symbol refl (c
-    .before .before .before .before .before .expect .ensures))) (λ c. search needs) (give-returns t))
+    .before .before .before .before .before .expect .ensures))) (λ c. search needs) (give-returns t)
 
-abbrev bare-cs : ℕ → List Callee
-bare-cs t = free-of ∷ below expr-rank t ∷ kind-here ∷ goes-on-assignment ∷ below set-rank t ∷ is-call ∷ refuse ∷ []
+abbrev pub bare-cs : ℕ → Calls cycle.Lts-bare.Claims
+bare-cs t = calls-7 free-of (below expr-rank t) kind-here goes-on-assignment (below set-rank t) is-call refuse
 
-bare-returns : (t : ℕ) → cycle.Lts-bare.Need-returns (claims-7 (asked bare-cs t)) (at bare-rank t) (bare-rank .post)
+bare-returns : (t : ℕ) → cycle.Lts-bare.Need-returns (bare-cs t .claims) (at bare-rank t) (bare-rank .post)
 bare-returns t c =
     let after-set = c .before .before in let after-if1 = after-set .before .before in let after-goes-on-assignment = after-if1 .before in let
     after-kind-here = after-goes-on-assignment .before in let after-expr = after-kind-here .before .before .before .before in let after-free-of =
@@ -343,7 +336,7 @@ bare-returns t c =
     after-if1 .if1 .taken) (after-set .set .ensures .1 .1 src l₁ .0) (λ e q. after-set .set .ensures .1 .1 src l₁ .1 e (ap (λ (z : ℕ). freeOf z
     (after-expr .expr .result)) (after-expr .expr .kept .0) ∙ q))))
 
-bare-returns-2 : (t : ℕ) → cycle.Lts-bare.Need-returns-2 (claims-7 (asked bare-cs t)) (at bare-rank t) (bare-rank .post)
+bare-returns-2 : (t : ℕ) → cycle.Lts-bare.Need-returns-2 (bare-cs t .claims) (at bare-rank t) (bare-rank .post)
 bare-returns-2 t c =
     let after-is-call = c .before in let after-if1 = after-is-call .before .before in let after-goes-on-assignment = after-if1 .before in let
     after-kind-here = after-goes-on-assignment .before in let after-expr = after-kind-here .before .before .before .before in pair
@@ -351,7 +344,7 @@ bare-returns-2 t c =
     .kind-here .ensures .1 src l₁) (after-expr .expr .ensures .1 .1 src l) (after-is-call .is-call .ensures .1) (sym (after-goes-on-assignment
     .goes-on-assignment .ensures .1) ∙ after-if1 .if1 .left) (c .if2 .taken)))
 
-bare-returns-3 : (t : ℕ) → cycle.Lts-bare.Need-returns-3 (claims-7 (asked bare-cs t)) (at bare-rank t) (bare-rank .post)
+bare-returns-3 : (t : ℕ) → cycle.Lts-bare.Need-returns-3 (bare-cs t .claims) (at bare-rank t) (bare-rank .post)
 bare-returns-3 t c =
     let after-if2 = c .before .before in let after-is-call = after-if2 .before in let after-if1 = after-is-call .before .before in let
     after-goes-on-assignment = after-if1 .before in let after-kind-here = after-goes-on-assignment .before in let after-expr = after-kind-here .before
@@ -360,19 +353,18 @@ bare-returns-3 t c =
     (after-expr .expr .ensures .1 .1 src l) (after-is-call .is-call .ensures .1) (sym (after-goes-on-assignment .goes-on-assignment .ensures .1) ∙
     after-if1 .if1 .left) (after-if2 .if2 .left) (c .refuse .ensures .1 .1) (refuses-on (c .refuse .ensures .1 .1))))
 
-pub bare-ok : {M : Type 1} (t : ℕ) → cycle.Lts-bare.Closed (claims-7 (bare-cs t)) (at bare-rank t) (bare-rank .post) M
+pub bare-ok : {M : Type 1} (t : ℕ) → cycle.Lts-bare.Closed (bare-cs t .claims) (at bare-rank t) (bare-rank .post) M
 bare-ok t =
-    knowing (bare-cs t) _
-    (cycle.Lts-bare.spec (claims-7 (asked bare-cs t)) (at bare-rank t) (bare-rank .post) (λ c κs. tt) (λ c κs. omega arith)
+    cycle.Lts-bare.spec (bare-cs t .claims) (at bare-rank t) (bare-rank .post) (λ c κs. tt) (λ c κs. omega arith)
     (λ c κs. let e = c .before .before .before .expr in past-expression refl (e .ensures) (e .kept .0)) (λ c κs. tt)
     (λ c κs. pair (omega arith) (c .before .before .before .kind-here .ensures .0)) (λ c. search needs) (bare-returns t)
     (λ c κs. c .before .before .before .kind-here .ensures .0) (λ c. search needs) (bare-returns-2 t) (λ c κs. c .before .before .is-call .ensures .0)
-    (λ c. search needs) (bare-returns-3 t))
+    (λ c. search needs) (bare-returns-3 t)
 
-abbrev set-cs : ℕ → List Callee
-set-cs t = free-of ∷ minus ∷ below also-rank t ∷ expect ∷ below arg-rank t ∷ below rest-rank t ∷ node ∷ []
+abbrev pub set-cs : ℕ → Calls cycle.Lts-set.Claims
+set-cs t = calls-7 free-of minus (below also-rank t) expect (below arg-rank t) (below rest-rank t) node
 
-set-returns : (t : ℕ) → cycle.Lts-set.Need-returns (claims-7 (asked set-cs t)) (at set-rank t) (set-rank .post)
+set-returns : (t : ℕ) → cycle.Lts-set.Need-returns (set-cs t .claims) (at set-rank t) (set-rank .post)
 set-returns t c =
     let after-node = c .before .before in let after-rest = after-node .before .before .before .before in let after-arg = after-rest .before .before
     .before .before in let after-expect = after-arg .before .before in let after-minus2 = after-expect .before .before in let after-free-of2 =
@@ -386,11 +378,9 @@ set-returns t c =
     .ensures .1) (after-free-of2 .free-of2 .ensures .1) (after-also .also .kept .0)) (after-also .also .ensures .1 .1 src l) (after-expect .expect
     .ensures .1 .1 src l₁) (after-arg .arg .ensures .1 .1 src l₁) (after-rest .rest .ensures .1 .1 src l₂) (after-node .node .ensures .1 .1)))
 
-pub set-ok : {M : Type 1} (t : ℕ) → cycle.Lts-set.Closed (claims-7 (set-cs t)) (at set-rank t) (set-rank .post) M
+pub set-ok : {M : Type 1} (t : ℕ) → cycle.Lts-set.Closed (set-cs t .claims) (at set-rank t) (set-rank .post) M
 set-ok t =
-    knowing (set-cs t) _
-    (cycle.Lts-set.spec (claims-7 (asked set-cs t)) (at set-rank t) (set-rank .post) (λ c κs. tt) (λ c κs. tt) (λ c κs. omega arith) (λ c κs. tt)
-    (λ c κs. tt)
+    cycle.Lts-set.spec (set-cs t .claims) (at set-rank t) (set-rank .post) (λ c κs. tt) (λ c κs. tt) (λ c κs. omega arith) (λ c κs. tt) (λ c κs. tt)
     (λ c κs. let e = c .before .before .before .before .before .before .also in pair (past-part refl (e .ensures) (e .kept .0)) (omega arith))
     (λ c κs. pair (omega arith) (past-symbol refl (c .before .expect .ensures)))
     (λ c κs. pair (omega (
@@ -411,4 +401,4 @@ set-ok t =
           .ensures .1) (expect .expect .ensures .0 .0),
     )) (λ c κs. let rest = c .before .before .before in let arg = rest .before .before .before .before in
     let expect = arg .before .before in ready-leaves (rest .rest .ensures .1 .0) (rest .rest .kept .0) refl (ready-takes (arg .arg .ensures .1 .0)
-    (arg .arg .kept .0) (past-symbol refl (expect .expect .ensures)))) (λ c. search needs) (set-returns t))
+    (arg .arg .kept .0) (past-symbol refl (expect .expect .ensures)))) (λ c. search needs) (set-returns t)

@@ -2,7 +2,7 @@
 -- takes one, and every other call goes to a smaller rank. An expression's rank grows with its binding: 20 and four for each step of it. Below
 -- stand its operands, from 16 to 9; above it lists of expressions, 50 to 52, what commands are made of, 51 to 59, a command 55, and 60 and 61
 -- for what stands after labels.
-use Rattle.laws.proofs.Basics.{ℕ, _+_, _*_, _<_, List, map, getD}
+use Rattle.laws.proofs.Basics.{ℕ, _+_, _*_, _<_, List, [], _∷_}
 use mir.Syntax.{Name}
 use borrow.Fn.Kind.{PK, RK}
 use borrow.Fn.Kinds.{In, Out}
@@ -139,56 +139,75 @@ set-size = callee s.set_size.Kinds.ps s.set_size.Kinds.r s.set_size.Reads.Asked 
 abbrev pub suffixed-kind : Callee
 suffixed-kind = callee s.suffixed_kind.Kinds.ps s.suffixed_kind.Kinds.r s.suffixed_kind.Reads.Asked s.suffixed_kind.Reads.Learnt "tree::scratch::suffixed_kind"
 
--- what they ask and what is learnt of them, as the tuples that the rules of their callers take
-module _ (l : List Callee) (k : ℕ) where
+-- what a function calls: a list of it, and the tuple of what is asked and learnt that its rule takes
+pub record Calls (T : Type 1) : Type 3 where
+  pub callees : List Callee
+  pub claims : T
+
+abbrev calls : {T : Type 1} → List Callee → T → Calls T
+calls l t = record { callees = l; claims = t }
+
+module _ (c : Callee) where
   abbrev I : Type 1
-  I = In (getD l k minus .n) (getD l k minus .ps)
+  I = In (c .n) (c .ps)
 
   abbrev O : Type 1
-  O = Out (getD l k minus .n) (getD l k minus .ps) (getD l k minus .r)
+  O = Out (c .n) (c .ps) (c .r)
 
   abbrev P : I
-  P = getD l k minus .asks
+  P = c .asks
 
   abbrev Q : O
-  Q = getD l k minus .learnt
+  Q = with-asked c .learnt
 
-abbrev pub claims-2 : (l : List Callee) → I l 0 × O l 0 × I l 1 × O l 1
-claims-2 l = (P l 0, Q l 0, P l 1, Q l 1)
+abbrev pub calls-2 : (a b : Callee) → Calls (I a × O a × I b × O b)
+calls-2 a b = calls (a ∷ b ∷ []) (P a, Q a, P b, Q b)
 
-abbrev pub claims-3 : (l : List Callee) → I l 0 × O l 0 × I l 1 × O l 1 × I l 2 × O l 2
-claims-3 l = (P l 0, Q l 0, P l 1, Q l 1, P l 2, Q l 2)
+abbrev pub calls-3 : (a b c : Callee) → Calls (I a × O a × I b × O b × I c × O c)
+calls-3 a b c = calls (a ∷ b ∷ c ∷ []) (P a, Q a, P b, Q b, P c, Q c)
 
-abbrev pub claims-4 : (l : List Callee) → I l 0 × O l 0 × I l 1 × O l 1 × I l 2 × O l 2 × I l 3 × O l 3
-claims-4 l = (P l 0, Q l 0, P l 1, Q l 1, P l 2, Q l 2, P l 3, Q l 3)
+abbrev pub calls-4 : (a b c d : Callee) → Calls (I a × O a × I b × O b × I c × O c × I d × O d)
+calls-4 a b c d = calls (a ∷ b ∷ c ∷ d ∷ []) (P a, Q a, P b, Q b, P c, Q c, P d, Q d)
 
-abbrev pub claims-5 : (l : List Callee) → I l 0 × O l 0 × I l 1 × O l 1 × I l 2 × O l 2 × I l 3 × O l 3 × I l 4 × O l 4
-claims-5 l = (P l 0, Q l 0, P l 1, Q l 1, P l 2, Q l 2, P l 3, Q l 3, P l 4, Q l 4)
+abbrev pub calls-5 : (a b c d e : Callee) → Calls (I a × O a × I b × O b × I c × O c × I d × O d × I e × O e)
+calls-5 a b c d e = calls (a ∷ b ∷ c ∷ d ∷ e ∷ []) (P a, Q a, P b, Q b, P c, Q c, P d, Q d, P e, Q e)
 
-abbrev pub claims-6 : (l : List Callee) → I l 0 × O l 0 × I l 1 × O l 1 × I l 2 × O l 2 × I l 3 × O l 3 × I l 4 × O l 4 × I l 5 × O l 5
-claims-6 l = (P l 0, Q l 0, P l 1, Q l 1, P l 2, Q l 2, P l 3, Q l 3, P l 4, Q l 4, P l 5, Q l 5)
+abbrev pub calls-6 : (a b c d e f : Callee) → Calls (I a × O a × I b × O b × I c × O c × I d × O d × I e × O e × I f × O f)
+calls-6 a b c d e f = calls (a ∷ b ∷ c ∷ d ∷ e ∷ f ∷ []) (P a, Q a, P b, Q b, P c, Q c, P d, Q d, P e, Q e, P f, Q f)
 
-abbrev pub claims-7 : (l : List Callee) → I l 0 × O l 0 × I l 1 × O l 1 × I l 2 × O l 2 × I l 3 × O l 3 × I l 4 × O l 4 × I l 5 × O l 5 × I l 6 × O l 6
-claims-7 l = (P l 0, Q l 0, P l 1, Q l 1, P l 2, Q l 2, P l 3, Q l 3, P l 4, Q l 4, P l 5, Q l 5, P l 6, Q l 6)
+abbrev pub calls-7 : (a b c d e f g : Callee) → Calls (I a × O a × I b × O b × I c × O c × I d × O d × I e × O e × I f × O f × I g × O g)
+calls-7 a b c d e f g = calls (a ∷ b ∷ c ∷ d ∷ e ∷ f ∷ g ∷ []) (P a, Q a, P b, Q b, P c, Q c, P d, Q d, P e, Q e, P f, Q f, P g, Q g)
 
-abbrev pub claims-8 : (l : List Callee) → I l 0 × O l 0 × I l 1 × O l 1 × I l 2 × O l 2 × I l 3 × O l 3 × I l 4 × O l 4 × I l 5 × O l 5 × I l 6 × O l 6 × I l 7 × O l 7
-claims-8 l = (P l 0, Q l 0, P l 1, Q l 1, P l 2, Q l 2, P l 3, Q l 3, P l 4, Q l 4, P l 5, Q l 5, P l 6, Q l 6, P l 7, Q l 7)
+abbrev pub calls-8 :
+    (a b c d e f g h : Callee) → Calls (I a × O a × I b × O b × I c × O c × I d × O d × I e × O e × I f × O f × I g × O g × I h × O h)
+calls-8 a b c d e f g h = calls (a ∷ b ∷ c ∷ d ∷ e ∷ f ∷ g ∷ h ∷ []) (P a, Q a, P b, Q b, P c, Q c, P d, Q d, P e, Q e, P f, Q f, P g, Q g, P h, Q h)
 
-abbrev pub claims-9 : (l : List Callee) → I l 0 × O l 0 × I l 1 × O l 1 × I l 2 × O l 2 × I l 3 × O l 3 × I l 4 × O l 4 × I l 5 × O l 5 × I l 6 × O l 6 × I l 7 × O l 7 × I l 8 × O l 8
-claims-9 l = (P l 0, Q l 0, P l 1, Q l 1, P l 2, Q l 2, P l 3, Q l 3, P l 4, Q l 4, P l 5, Q l 5, P l 6, Q l 6, P l 7, Q l 7, P l 8, Q l 8)
+abbrev pub calls-9 :
+    (a b c d e f g h i : Callee) → Calls (I a × O a × I b × O b × I c × O c × I d × O d × I e × O e × I f × O f × I g × O g × I h × O h × I i × O i)
+calls-9 a b c d e f g h i =
+    calls (a ∷ b ∷ c ∷ d ∷ e ∷ f ∷ g ∷ h ∷ i ∷ [])
+    (P a, Q a, P b, Q b, P c, Q c, P d, Q d, P e, Q e, P f, Q f, P g, Q g, P h, Q h, P i, Q i)
 
-abbrev pub claims-10 : (l : List Callee) → I l 0 × O l 0 × I l 1 × O l 1 × I l 2 × O l 2 × I l 3 × O l 3 × I l 4 × O l 4 × I l 5 × O l 5 × I l 6 × O l 6 × I l 7 × O l 7 × I l 8 × O l 8 × I l 9 × O l 9
-claims-10 l = (P l 0, Q l 0, P l 1, Q l 1, P l 2, Q l 2, P l 3, Q l 3, P l 4, Q l 4, P l 5, Q l 5, P l 6, Q l 6, P l 7, Q l 7, P l 8, Q l 8, P l 9, Q l 9)
+abbrev pub calls-10 :
+    (a b c d e f g h i j : Callee) → Calls (I a × O a × I b × O b × I c × O c × I d × O d × I e × O e × I f × O f × I g × O g × I h × O h × I i × O i
+    × I j × O j)
+calls-10 a b c d e f g h i j =
+    calls (a ∷ b ∷ c ∷ d ∷ e ∷ f ∷ g ∷ h ∷ i ∷ j ∷ [])
+    (P a, Q a, P b, Q b, P c, Q c, P d, Q d, P e, Q e, P f, Q f, P g, Q g, P h, Q h, P i, Q i, P j, Q j)
 
-abbrev pub claims-11 : (l : List Callee) → I l 0 × O l 0 × I l 1 × O l 1 × I l 2 × O l 2 × I l 3 × O l 3 × I l 4 × O l 4 × I l 5 × O l 5 × I l 6 × O l 6 × I l 7 × O l 7 × I l 8 × O l 8 × I l 9 × O l 9 × I l 10 × O l 10
-claims-11 l = (P l 0, Q l 0, P l 1, Q l 1, P l 2, Q l 2, P l 3, Q l 3, P l 4, Q l 4, P l 5, Q l 5, P l 6, Q l 6, P l 7, Q l 7, P l 8, Q l 8, P l 9, Q l 9, P l 10, Q l 10)
+abbrev pub calls-11 :
+    (a b c d e f g h i j k : Callee) → Calls (I a × O a × I b × O b × I c × O c × I d × O d × I e × O e × I f × O f × I g × O g × I h × O h × I i × O
+    i × I j × O j × I k × O k)
+calls-11 a b c d e f g h i j k =
+    calls (a ∷ b ∷ c ∷ d ∷ e ∷ f ∷ g ∷ h ∷ i ∷ j ∷ k ∷ [])
+    (P a, Q a, P b, Q b, P c, Q c, P d, Q d, P e, Q e, P f, Q f, P g, Q g, P h, Q h, P i, Q i, P j, Q j, P k, Q k)
 
-abbrev pub claims-12 : (l : List Callee) → I l 0 × O l 0 × I l 1 × O l 1 × I l 2 × O l 2 × I l 3 × O l 3 × I l 4 × O l 4 × I l 5 × O l 5 × I l 6 × O l 6 × I l 7 × O l 7 × I l 8 × O l 8 × I l 9 × O l 9 × I l 10 × O l 10 × I l 11 × O l 11
-claims-12 l = (P l 0, Q l 0, P l 1, Q l 1, P l 2, Q l 2, P l 3, Q l 3, P l 4, Q l 4, P l 5, Q l 5, P l 6, Q l 6, P l 7, Q l 7, P l 8, Q l 8, P l 9, Q l 9, P l 10, Q l 10, P l 11, Q l 11)
-
--- the same, where what each was asked is known after it
-abbrev pub asked : (ℕ → List Callee) → ℕ → List Callee
-asked cs t = map with-asked (cs t)
+abbrev pub calls-12 :
+    (a b c d e f g h i j k l : Callee) → Calls (I a × O a × I b × O b × I c × O c × I d × O d × I e × O e × I f × O f × I g × O g × I h × O h × I i ×
+    O i × I j × O j × I k × O k × I l × O l)
+calls-12 a b c d e f g h i j k l =
+    calls (a ∷ b ∷ c ∷ d ∷ e ∷ f ∷ g ∷ h ∷ i ∷ j ∷ k ∷ l ∷ [])
+    (P a, Q a, P b, Q b, P c, Q c, P d, Q d, P e, Q e, P f, Q f, P g, Q g, P h, Q h, P i, Q i, P j, Q j, P k, Q k, P l, Q l)
 
 -- the functions of the cycle
 abbrev pub also-rank : Member

@@ -3,7 +3,7 @@ use Rattle.tree.proofs.phrases.+also+arg+bare+block+body+call+cases+cmd
 use Rattle.language.specs.Tree as T
 use Rattle.language.specs.Expressions as E
 use Rattle.language.specs.Commands as C
-use Rattle.laws.proofs.Basics.{[], _∷_, List, ℕ, _+_, _-_, _≡_, refl, sym, _∙_, arith, needs, eq-eqb, ne-eqb}
+use Rattle.laws.proofs.Basics.{ℕ, _+_, _-_, _≡_, refl, sym, _∙_, arith, needs, eq-eqb, ne-eqb}
 use Rattle.language.specs.Binding.{isSuffix}
 use Rattle.language.specs.Grammar.{within, readers}
 use Rattle.language.specs.Reader.{manyUpTo, isComma}
@@ -25,17 +25,15 @@ use Rattle.tree.proofs.Symbols.{lies-still}
 use Rattle.tree.specs.Between.{aFurther}
 use Rattle.tree.specs.Encoding.{encodeExpressions}
 use Rattle.tree.specs.Reads.{Encodes}
-use Rattle.tree.proofs.Asked.{Callee, knowing}
-use cycle.Proof.Ranks.{also-rank, arg-rank, asked, at, atom, begin-item, below, call-rank, claims-10, claims-2, claims-3, claims-4, claims-5}
-use cycle.Proof.Ranks.{claims-6, close-item, cmd-rank, expect, expr-rank, free-of, index-rank, is-monadic, is-suffix, key-rank, kind-here, minus}
-use cycle.Proof.Ranks.{monad-rank, nest-rank, node, pass-rank, place-here, place-of, refuse, rest-rank, set-size, suffixed-kind, tail-rank}
-use cycle.Proof.Ranks.{tails-rank, unit-rank, valof-rank, whole-rank}
+use cycle.Proof.Ranks.{Calls, also-rank, arg-rank, at, atom, begin-item, below, call-rank, calls-10, calls-2, calls-3, calls-4, calls-5, calls-6}
+use cycle.Proof.Ranks.{close-item, cmd-rank, expect, expr-rank, free-of, index-rank, is-monadic, is-suffix, key-rank, kind-here, minus, monad-rank}
+use cycle.Proof.Ranks.{nest-rank, node, pass-rank, place-here, place-of, refuse, rest-rank, set-size, suffixed-kind, tail-rank, tails-rank, unit-rank}
+use cycle.Proof.Ranks.{valof-rank, whole-rank}
 
-abbrev whole-cs : ℕ → List Callee
-whole-cs t =
-    free-of ∷ below unit-rank t ∷ kind-here ∷ is-suffix ∷ minus ∷ place-of ∷ below tail-rank t ∷ below tails-rank t ∷ suffixed-kind ∷ node ∷ []
+abbrev pub whole-cs : ℕ → Calls cycle.Lts-whole.Claims
+whole-cs t = calls-10 free-of (below unit-rank t) kind-here is-suffix minus place-of (below tail-rank t) (below tails-rank t) suffixed-kind node
 
-whole-returns : (t : ℕ) → cycle.Lts-whole.Need-returns (claims-10 (asked whole-cs t)) (at whole-rank t) (whole-rank .post)
+whole-returns : (t : ℕ) → cycle.Lts-whole.Need-returns (whole-cs t .claims) (at whole-rank t) (whole-rank .post)
 whole-returns t c =
     let after-node = c .before .before in let after-suffixed-kind = after-node .before in let after-tails = after-suffixed-kind .before .before
     .before .before in let after-tail = after-tails .before .before .before .before in let after-place-of = after-tail .before .before in let
@@ -50,17 +48,16 @@ whole-returns t c =
     (after-suffixed-kind .suffixed-kind .ensures .1) (after-tail .tail .ensures .1 .1 src l₁ (after-kind-here .kind-here .ensures .1 src l₁))
     (after-tails .tails .ensures .1 .1 src l₂) (after-node .node .ensures .1 .1)))
 
-whole-returns-2 : (t : ℕ) → cycle.Lts-whole.Need-returns-2 (claims-10 (asked whole-cs t)) (at whole-rank t) (whole-rank .post)
+whole-returns-2 : (t : ℕ) → cycle.Lts-whole.Need-returns-2 (whole-cs t .claims) (at whole-rank t) (whole-rank .post)
 whole-returns-2 t c =
     let after-is-suffix = c .before in let after-kind-here = after-is-suffix .before in let after-unit = after-kind-here .before .before .before
     .before in pair (after-unit .unit .ensures .1 .0) (λ src l. (let l₁ = lies-still l (after-unit .unit .ensures .1 .0 .kept) in suffixed-one l₁ 0 _
     (after-kind-here .kind-here .ensures .1 src l₁) (after-unit .unit .ensures .1 .1 src l) (sym (after-is-suffix .is-suffix .ensures .1) ∙ c .if1
     .left)))
 
-pub whole-ok : {M : Type 1} (t : ℕ) → cycle.Lts-whole.Closed (claims-10 (whole-cs t)) (at whole-rank t) (whole-rank .post) M
+pub whole-ok : {M : Type 1} (t : ℕ) → cycle.Lts-whole.Closed (whole-cs t .claims) (at whole-rank t) (whole-rank .post) M
 whole-ok t =
-    knowing (whole-cs t) _
-    (cycle.Lts-whole.spec (claims-10 (asked whole-cs t)) (at whole-rank t) (whole-rank .post) (λ c κs. tt) (λ c κs. omega arith)
+    cycle.Lts-whole.spec (whole-cs t .claims) (at whole-rank t) (whole-rank .post) (λ c κs. tt) (λ c κs. omega arith)
     (λ c κs. let e = c .before .before .before .unit in past-part refl (e .ensures) (e .kept .0)) (λ c κs. tt) (λ c κs. tt) (λ c κs. tt)
     (λ c κs. c .before .before .before .before .before .before .kind-here .ensures .0) (λ c κs. pair (omega arith) (c .before .place-of .ensures .0))
     (λ c κs. pair (omega (
@@ -79,24 +76,24 @@ whole-ok t =
     .before .tail .ensures .0 .1))) (λ c. let node = c .before .before in let tails = node .before .before .before .before .before in let tail = tails
     .before .before .before .before in let unit = tail .before .before .before .before .before .before .before .before .before .before .before .before
     .before in node .node .kept .0 ∙ tails .tails .kept .0 ∙ tail .tail .kept .0 ∙ unit .unit .kept .0) (whole-returns t) (λ c. search needs)
-    (whole-returns-2 t))
+    (whole-returns-2 t)
 
-abbrev unit-cs : ℕ → List Callee
-unit-cs t = kind-here ∷ below nest-rank t ∷ below valof-rank t ∷ atom ∷ []
+abbrev pub unit-cs : ℕ → Calls cycle.Lts-unit.Claims
+unit-cs t = calls-4 kind-here (below nest-rank t) (below valof-rank t) atom
 
-pub unit-ok : {M : Type 1} (t : ℕ) → cycle.Lts-unit.Closed (claims-4 (unit-cs t)) (at unit-rank t) (unit-rank .post) M
+pub unit-ok : {M : Type 1} (t : ℕ) → cycle.Lts-unit.Closed (unit-cs t .claims) (at unit-rank t) (unit-rank .post) M
 unit-ok t =
-    cycle.Lts-unit.spec (claims-4 (unit-cs t)) (at unit-rank t) (unit-rank .post) (λ c κs. omega arith) (λ c κs. omega arith) (λ c κs. omega arith)
-    (λ c κs. omega arith) (λ c. search needs) (λ c. primary-bracketed _ (c .before .before .before .before .before .kind-here .ensures) (c .before
-    .before .before .before .match .keys1) (c .before .before .nest .ensures)) (λ c. search needs)
-    (λ c. primary-valof _ (c .before .before .before .before .before .kind-here .ensures) (c .before .before .before .before .match .keys2) (c .before
-    .before .valof .ensures)) (λ c. search needs) (λ c. primary-atom _ (c .before .before .before .before .before .kind-here .ensures) (c .before
-    .before .before .before .match .rest) (c .before .before .atom .ensures))
+    cycle.Lts-unit.spec (unit-cs t .claims) (at unit-rank t) (unit-rank .post) (λ c κs. omega arith) (λ c κs. omega arith) (λ c κs. omega arith)
+    (λ c κs. omega arith) (λ c. search needs) (λ c. primary-bracketed _ (c .before .before .before .before .before .kind-here .ensures .1) (c .before
+    .before .before .before .match .keys1) (c .before .before .nest .ensures .1)) (λ c. search needs)
+    (λ c. primary-valof _ (c .before .before .before .before .before .kind-here .ensures .1) (c .before .before .before .before .match .keys2) (c
+    .before .before .valof .ensures .1)) (λ c. search needs) (λ c. primary-atom _ (c .before .before .before .before .before .kind-here .ensures .1)
+    (c .before .before .before .before .match .rest) (c .before .before .atom .ensures .1))
 
-abbrev nest-cs : ℕ → List Callee
-nest-cs t = refuse ∷ free-of ∷ place-here ∷ expect ∷ below expr-rank t ∷ node ∷ []
+abbrev pub nest-cs : ℕ → Calls cycle.Lts-nest.Claims
+nest-cs t = calls-6 refuse free-of place-here expect (below expr-rank t) node
 
-nest-returns-2 : (t : ℕ) → cycle.Lts-nest.Need-returns-2 (claims-6 (asked nest-cs t)) (at nest-rank t) (nest-rank .post)
+nest-returns-2 : (t : ℕ) → cycle.Lts-nest.Need-returns-2 (nest-cs t .claims) (at nest-rank t) (nest-rank .post)
 nest-returns-2 t c =
     let after-node = c .before .before in let after-expect2 = after-node .before .before in let after-expr = after-expect2 .before .before .before
     .before in let after-expect = after-expr .before .before in let after-place-here = after-expect .before .before in let after-free-of =
@@ -106,19 +103,18 @@ nest-returns-2 t c =
     .ensures .1 src l) (after-if1 .if1 .left) (after-expect .expect .ensures .1 .1 src l) (after-expr .expr .ensures .1 .1 src l) (after-expect2
     .expect2 .ensures .1 .1 src (lies-still l (after-expr .expr .ensures .1 .0 .kept))) (after-node .node .ensures .1 .1))
 
-pub nest-ok : {M : Type 1} (t : ℕ) → cycle.Lts-nest.Closed (claims-6 (nest-cs t)) (at nest-rank t) (nest-rank .post) M
+pub nest-ok : {M : Type 1} (t : ℕ) → cycle.Lts-nest.Closed (nest-cs t .claims) (at nest-rank t) (nest-rank .post) M
 nest-ok t =
-    knowing (nest-cs t) _
-    (cycle.Lts-nest.spec (claims-6 (asked nest-cs t)) (at nest-rank t) (nest-rank .post) (λ c κs. omega arith) (λ c. search needs)
+    cycle.Lts-nest.spec (nest-cs t .claims) (at nest-rank t) (nest-rank .post) (λ c κs. omega arith) (λ c. search needs)
     (λ c. bracketed-shut _ (c .before .before .if1 .taken) (c .refuse .ensures .1)) (λ c κs. tt) (λ c κs. omega arith) (λ c κs. omega arith)
     (λ c. omega arith) (λ c κs. pair (omega arith) (pair (past-symbol refl (c .before .expect .ensures)) (omega arith)))
     (λ c κs. let e = c .before .before .before .expr in pair (past-expression refl (e .ensures) (e .kept .0)) (omega arith))
-    (λ c κs. past-symbol refl (c .before .expect2 .ensures)) (λ c. search needs) (nest-returns-2 t))
+    (λ c κs. past-symbol refl (c .before .expect2 .ensures)) (λ c. search needs) (nest-returns-2 t)
 
-abbrev valof-cs : ℕ → List Callee
-valof-cs t = refuse ∷ free-of ∷ place-here ∷ expect ∷ below cmd-rank t ∷ node ∷ []
+abbrev pub valof-cs : ℕ → Calls cycle.Lts-valof.Claims
+valof-cs t = calls-6 refuse free-of place-here expect (below cmd-rank t) node
 
-valof-returns-2 : (t : ℕ) → cycle.Lts-valof.Need-returns-2 (claims-6 (asked valof-cs t)) (at valof-rank t) (valof-rank .post)
+valof-returns-2 : (t : ℕ) → cycle.Lts-valof.Need-returns-2 (valof-cs t .claims) (at valof-rank t) (valof-rank .post)
 valof-returns-2 t c =
     let after-node = c .before .before in let after-cmd = after-node .before .before .before .before in let after-expect = after-cmd .before .before
     in let after-place-here = after-expect .before .before in let after-free-of = after-place-here .before .before in let after-if1 = after-free-of
@@ -127,26 +123,25 @@ valof-returns-2 t c =
     (λ src l. valof-read l _ _ (after-free-of .free-of .ensures .1) (after-place-here .place-here .ensures .1 src l) (after-if1 .if1 .left)
     (after-expect .expect .ensures .1 .1 src l) (after-cmd .cmd .ensures .1 .1 src l) (after-node .node .ensures .1 .1))
 
-pub valof-ok : {M : Type 1} (t : ℕ) → cycle.Lts-valof.Closed (claims-6 (valof-cs t)) (at valof-rank t) (valof-rank .post) M
+pub valof-ok : {M : Type 1} (t : ℕ) → cycle.Lts-valof.Closed (valof-cs t .claims) (at valof-rank t) (valof-rank .post) M
 valof-ok t =
-    knowing (valof-cs t) _
-    (cycle.Lts-valof.spec (claims-6 (asked valof-cs t)) (at valof-rank t) (valof-rank .post) (λ c κs. omega arith) (λ c. search needs)
+    cycle.Lts-valof.spec (valof-cs t .claims) (at valof-rank t) (valof-rank .post) (λ c κs. omega arith) (λ c. search needs)
     (λ c. valof-shut _ (c .before .before .if1 .taken) (c .refuse .ensures .1)) (λ c κs. tt) (λ c κs. omega arith) (λ c κs. omega arith)
     (λ c. omega arith) (λ c κs. pair (omega arith) (past-symbol refl (c .before .expect .ensures)))
     (λ c κs. ready-leaves (c .before .before .before .cmd .ensures .1 .0) (c .before .before .before .cmd .kept .0) refl (past-symbol refl (c .before
-    .before .before .before .before .expect .ensures))) (λ c. search needs) (valof-returns-2 t))
+    .before .before .before .before .expect .ensures))) (λ c. search needs) (valof-returns-2 t)
 
-abbrev tail-cs : ℕ → List Callee
-tail-cs t = below call-rank t ∷ below index-rank t ∷ []
+abbrev pub tail-cs : ℕ → Calls cycle.Lts-tail.Claims
+tail-cs t = calls-2 (below call-rank t) (below index-rank t)
 
-pub tail-ok : {M : Type 1} (t : ℕ) → cycle.Lts-tail.Closed (claims-2 (tail-cs t)) (at tail-rank t) (tail-rank .post) M
+pub tail-ok : {M : Type 1} (t : ℕ) → cycle.Lts-tail.Closed (tail-cs t .claims) (at tail-rank t) (tail-rank .post) M
 tail-ok t =
-    cycle.Lts-tail.spec (claims-2 (tail-cs t)) (at tail-rank t) (tail-rank .post) (λ c κs. omega arith) (λ c κs. omega arith) (λ c. search needs)
-    (λ c. suffix-arguments _ (c .before .before .before .before .if1 .taken) (c .before .before .call .ensures)) (λ c. search needs)
-    (λ c. suffix-index _ (c .before .before .before .before .if1 .left) (c .before .before .index .ensures))
+    cycle.Lts-tail.spec (tail-cs t .claims) (at tail-rank t) (tail-rank .post) (λ c κs. omega arith) (λ c κs. omega arith) (λ c. search needs)
+    (λ c. suffix-arguments _ (c .before .before .before .before .if1 .taken) (c .before .before .call .ensures .1)) (λ c. search needs)
+    (λ c. suffix-index _ (c .before .before .before .before .if1 .left) (c .before .before .index .ensures .1))
 
-abbrev tails-cs : ℕ → List Callee
-tails-cs t = minus ∷ kind-here ∷ is-suffix ∷ below tail-rank t ∷ []
+abbrev pub tails-cs : ℕ → Calls cycle.Lts-tails.Claims
+tails-cs t = calls-4 minus kind-here is-suffix (below tail-rank t)
 
 abbrev tails-inv : cycle.Lts-tails.InvT-loop
 tails-inv s₀ n levels first turns₀ call₀ a₀ s turns call a =
@@ -156,33 +151,33 @@ tails-inv s₀ n levels first turns₀ call₀ a₀ s turns call a =
 abbrev tails-turns : cycle.Lts-tails.MeasureT-loop
 tails-turns s₀ n levels first turns₀ call₀ a₀ s turns call a = turns
 
-tails-loop-again : (t : ℕ) → cycle.Lts-tails.Need-loop-again (claims-4 (tails-cs t)) (at tails-rank t) (tails-rank .post) tails-inv tails-turns
+tails-loop-again : (t : ℕ) → cycle.Lts-tails.Need-loop-again (tails-cs t .claims) (at tails-rank t) (tails-rank .post) tails-inv tails-turns
 tails-loop-again t c =
     let after-tail = c .before .before in let after-if1 = after-tail .before .before in let after-is-suffix = after-if1 .before in let after-kind-here
     = after-is-suffix .before in let in-loop = after-kind-here .before .before .before in many-turns _ _ _ _ suffix-next (in-loop .loop .inv)
-    (after-kind-here .kind-here .ensures) (sym (after-is-suffix .is-suffix .ensures) ∙ after-if1 .if1 .taken) (after-tail .tail .ensures)
+    (after-kind-here .kind-here .ensures .1) (sym (after-is-suffix .is-suffix .ensures .1) ∙ after-if1 .if1 .taken) (after-tail .tail .ensures .1)
     (after-tail .tail .kept .0) (omega arith)
 
-tails-returns : (t : ℕ) → cycle.Lts-tails.Need-returns (claims-4 (tails-cs t)) (at tails-rank t) (tails-rank .post) tails-inv tails-turns
+tails-returns : (t : ℕ) → cycle.Lts-tails.Need-returns (tails-cs t .claims) (at tails-rank t) (tails-rank .post) tails-inv tails-turns
 tails-returns t c =
     let after-is-suffix = c .before in let after-kind-here = after-is-suffix .before in let in-loop = after-kind-here .before .before .before in let
-    after-minus = in-loop .before in many-ends _ _ _ _ suffix-last no-suffix-ended (after-minus .minus .ensures) (in-loop .loop .inv)
-    (after-kind-here .kind-here .ensures) (sym (after-is-suffix .is-suffix .ensures) ∙ c .if1 .left)
+    after-minus = in-loop .before in many-ends _ _ _ _ suffix-last no-suffix-ended (after-minus .minus .ensures .1) (in-loop .loop .inv)
+    (after-kind-here .kind-here .ensures .1) (sym (after-is-suffix .is-suffix .ensures .1) ∙ c .if1 .left)
 
-pub tails-ok : {M : Type 1} (t : ℕ) → cycle.Lts-tails.Closed (claims-4 (tails-cs t)) (at tails-rank t) (tails-rank .post) M
+pub tails-ok : {M : Type 1} (t : ℕ) → cycle.Lts-tails.Closed (tails-cs t .claims) (at tails-rank t) (tails-rank .post) M
 tails-ok t =
-    cycle.Lts-tails.spec (claims-4 (tails-cs t)) (at tails-rank t) (tails-rank .post) tails-inv tails-turns (λ c κs. tt)
+    cycle.Lts-tails.spec (tails-cs t .claims) (at tails-rank t) (tails-rank .post) tails-inv tails-turns (λ c κs. tt)
     (λ c. so-begins (c .before .before .pre .1) suffix-first)
     (λ c κs. ready-leaves (c .before .before .loop .inv .room) (c .before .before .loop .inv .same) refl (c .before .before .before .before .before
     .pre .1)) (λ c κs. tt) (λ c κs. pair (omega arith) (ready-leaves (c .before .before .before .before .before .before .loop .inv .room) (c .before
     .before .before .before .before .before .loop .inv .same) refl (c .before .before .before .before .before .before .before .before .before .pre
     .1))) (λ c. omega arith) (λ c. omega arith) (tails-loop-again t) (λ c. search needs) (tails-returns t) (λ c. search needs)
-    (λ c. many-spent _ _ _ _ suffix-last no-suffix-ended (c .before .before .minus .ensures) (c .before .loop .inv) (omega arith))
+    (λ c. many-spent _ _ _ _ suffix-last no-suffix-ended (c .before .before .minus .ensures .1) (c .before .loop .inv) (omega arith))
 
-abbrev call-cs : ℕ → List Callee
-call-cs t = refuse ∷ free-of ∷ expect ∷ below pass-rank t ∷ close-item ∷ []
+abbrev pub call-cs : ℕ → Calls cycle.Lts-call.Claims
+call-cs t = calls-5 refuse free-of expect (below pass-rank t) close-item
 
-call-returns-2 : (t : ℕ) → cycle.Lts-call.Need-returns-2 (claims-5 (asked call-cs t)) (at call-rank t) (call-rank .post)
+call-returns-2 : (t : ℕ) → cycle.Lts-call.Need-returns-2 (call-cs t .claims) (at call-rank t) (call-rank .post)
 call-returns-2 t c =
     let after-close-item = c .before .before in let after-pass = after-close-item .before .before .before .before in let after-expect = after-pass
     .before .before in let after-free-of = after-expect .before .before in let after-if1 = after-free-of .before .before in pair
@@ -190,19 +185,18 @@ call-returns-2 t c =
     refl) (λ src l. arguments-read src _ _ (after-free-of .free-of .ensures .1) (after-if1 .if1 .left) (after-expect .expect .ensures .1 .1 src l)
     (after-pass .pass .ensures .1 .1 src l) (after-close-item .close-item .ensures .1 .1))
 
-pub call-ok : {M : Type 1} (t : ℕ) → cycle.Lts-call.Closed (claims-5 (call-cs t)) (at call-rank t) (call-rank .post) M
+pub call-ok : {M : Type 1} (t : ℕ) → cycle.Lts-call.Closed (call-cs t .claims) (at call-rank t) (call-rank .post) M
 call-ok t =
-    knowing (call-cs t) _
-    (cycle.Lts-call.spec (claims-5 (asked call-cs t)) (at call-rank t) (call-rank .post) (λ c κs. omega arith) (λ c. search needs)
+    cycle.Lts-call.spec (call-cs t .claims) (at call-rank t) (call-rank .post) (λ c κs. omega arith) (λ c. search needs)
     (λ c. arguments-shut _ (c .before .before .if1 .taken) (c .refuse .ensures .1)) (λ c κs. tt) (λ c κs. omega arith) (λ c. omega arith)
     (λ c κs. pair (omega arith) (past-symbol refl (c .before .expect .ensures)))
     (λ c κs. ready-leaves (c .before .before .before .pass .ensures .1 .0) (c .before .before .before .pass .kept .0) refl (ready-part (c .before
-    .before .before .pass .ensures .0 .1) refl)) (λ c. search needs) (call-returns-2 t))
+    .before .before .pass .ensures .0 .1) refl)) (λ c. search needs) (call-returns-2 t)
 
-abbrev pass-cs : ℕ → List Callee
-pass-cs t = kind-here ∷ expect ∷ below arg-rank t ∷ below also-rank t ∷ []
+abbrev pub pass-cs : ℕ → Calls cycle.Lts-pass.Claims
+pass-cs t = calls-4 kind-here expect (below arg-rank t) (below also-rank t)
 
-pass-returns-2 : (t : ℕ) → cycle.Lts-pass.Need-returns-2 (claims-4 (asked pass-cs t)) (at pass-rank t) (pass-rank .post)
+pass-returns-2 : (t : ℕ) → cycle.Lts-pass.Need-returns-2 (pass-cs t .claims) (at pass-rank t) (pass-rank .post)
 pass-returns-2 t c =
     let after-also = c .before .before .before .before in let after-arg = after-also .before .before .before .before in let after-if1 = after-arg
     .before .before in let after-kind-here = after-if1 .before in pair
@@ -212,24 +206,23 @@ pass-returns-2 t c =
     (again (Encodes encodeExpressions) (λ es w h. record { same = h .same }) (after-also .also .ensures .1 .1 src l₁)) (c .expect2 .ensures .1 .1 src
     l₂)))
 
-pub pass-ok : {M : Type 1} (t : ℕ) → cycle.Lts-pass.Closed (claims-4 (pass-cs t)) (at pass-rank t) (pass-rank .post) M
+pub pass-ok : {M : Type 1} (t : ℕ) → cycle.Lts-pass.Closed (pass-cs t .claims) (at pass-rank t) (pass-rank .post) M
 pass-ok t =
-    knowing (pass-cs t) _
-    (cycle.Lts-pass.spec (claims-4 (asked pass-cs t)) (at pass-rank t) (pass-rank .post) (λ c κs. omega arith) (λ c κs. omega arith)
-    (λ c. search needs) (λ c. (
+    cycle.Lts-pass.spec (pass-cs t .claims) (at pass-rank t) (pass-rank .post) (λ c κs. omega arith) (λ c κs. omega arith) (λ c. search needs)
+    (λ c. (
       leaves-less (c .expect .ensures .1 .0) refl,
-      λ src l. no-arguments src _ (c .before .before .before .kind-here
-          .ensures .1 src l) (c .before .before .if1 .taken) (c .expect .ensures .1 .1 src l),
+      λ src l. no-arguments src _ (c .before .before .before .kind-here .ensures .1 src l) (c
+          .before .before .if1 .taken) (c .expect .ensures .1 .1 src l),
     )) (λ c κs. omega arith)
     (λ c κs. pair (omega arith) (ready-takes (c .before .before .before .arg .ensures .1 .0) (c .before .before .before .arg .kept .0) (ready-part (c
     .before .before .before .arg .ensures .0 .1) refl)))
     (λ c κs. let e = c .before .before .before .also in pair (past-part refl (e .ensures) (e .kept .0)) (omega arith)) (λ c. search needs)
-    (pass-returns-2 t))
+    (pass-returns-2 t)
 
-abbrev arg-cs : ℕ → List Callee
-arg-cs t = free-of ∷ begin-item ∷ below expr-rank t ∷ set-size ∷ []
+abbrev pub arg-cs : ℕ → Calls cycle.Lts-arg.Claims
+arg-cs t = calls-4 free-of begin-item (below expr-rank t) set-size
 
-arg-returns : (t : ℕ) → cycle.Lts-arg.Need-returns (claims-4 (asked arg-cs t)) (at arg-rank t) (arg-rank .post)
+arg-returns : (t : ℕ) → cycle.Lts-arg.Need-returns (arg-cs t .claims) (at arg-rank t) (arg-rank .post)
 arg-returns t c =
     let after-set-size = c .before .before in let after-expr = after-set-size .before .before .before .before in let after-begin-item = after-expr
     .before .before .before .before in let after-free-of = after-begin-item .before .before in let start = after-free-of .before .before .before in
@@ -238,18 +231,17 @@ arg-returns t c =
     .ensures .1 .1) (after-expr .expr .ensures .1 .1 src (lies-still l (after-begin-item .begin-item .ensures .1 .0 .kept))) (after-set-size .set-size
     .ensures .1 .1))
 
-pub arg-ok : {M : Type 1} (t : ℕ) → cycle.Lts-arg.Closed (claims-4 (arg-cs t)) (at arg-rank t) (arg-rank .post) M
+pub arg-ok : {M : Type 1} (t : ℕ) → cycle.Lts-arg.Closed (arg-cs t .claims) (at arg-rank t) (arg-rank .post) M
 arg-ok t =
-    knowing (arg-cs t) _
-    (cycle.Lts-arg.spec (claims-4 (asked arg-cs t)) (at arg-rank t) (arg-rank .post) (λ c κs. tt) (λ c κs. omega arith)
+    cycle.Lts-arg.spec (arg-cs t .claims) (at arg-rank t) (arg-rank .post) (λ c κs. tt) (λ c κs. omega arith)
     (λ c κs. pair (omega arith) (pair (ready-takes (c .before .before .before .begin-item .ensures .1 .0) (c .before .before .before .begin-item .kept
     .0) (c .before .before .before .begin-item .ensures .0)) (omega arith)))
     (λ c κs. let expr = c .before .before .before in let begin-item = expr .before .before .before .before in let free-of = begin-item .before .before
     in pair (past-expression refl (expr .expr .ensures) (expr .expr .kept .0)) (item-low (free-of .free-of .ensures .1) (ready-part (begin-item
-    .begin-item .ensures .0) refl))) (λ c. search needs) (arg-returns t))
+    .begin-item .ensures .0) refl))) (λ c. search needs) (arg-returns t)
 
-abbrev also-cs : ℕ → List Callee
-also-cs t = kind-here ∷ expect ∷ below arg-rank t ∷ []
+abbrev pub also-cs : ℕ → Calls cycle.Lts-also.Claims
+also-cs t = calls-3 kind-here expect (below arg-rank t)
 
 abbrev also-inv : cycle.Lts-also.InvT-loop
 also-inv s₀ n levels turns₀ count₀ a₀ s turns count a =
@@ -259,7 +251,7 @@ also-inv s₀ n levels turns₀ count₀ a₀ s turns count a =
 abbrev also-turns : cycle.Lts-also.MeasureT-loop
 also-turns s₀ n levels turns₀ count₀ a₀ s turns count a = turns
 
-also-loop-again : (t : ℕ) → cycle.Lts-also.Need-loop-again (claims-3 (asked also-cs t)) (at also-rank t) (also-rank .post) also-inv also-turns
+also-loop-again : (t : ℕ) → cycle.Lts-also.Need-loop-again (also-cs t .claims) (at also-rank t) (also-rank .post) also-inv also-turns
 also-loop-again t c =
     let after-arg = c .before .before in let after-expect = after-arg .before .before in let after-if1 = after-expect .before .before in let
     after-kind-here = after-if1 .before in let in-loop = after-kind-here .before .before .before in pair
@@ -267,20 +259,19 @@ also-loop-again t c =
     (further-reads _ (after-expect .expect .ensures .1) (after-arg .arg .ensures .1))) (after-arg .arg .kept .0) (omega arith))
     (omega (arith, in-loop .loop .inv .1))
 
-pub also-ok : {M : Type 1} (t : ℕ) → cycle.Lts-also.Closed (claims-3 (also-cs t)) (at also-rank t) (also-rank .post) M
+pub also-ok : {M : Type 1} (t : ℕ) → cycle.Lts-also.Closed (also-cs t .claims) (at also-rank t) (also-rank .post) M
 also-ok t =
-    knowing (also-cs t) _
-    (cycle.Lts-also.spec (claims-3 (asked also-cs t)) (at also-rank t) (also-rank .post) also-inv also-turns
+    cycle.Lts-also.spec (also-cs t .claims) (at also-rank t) (also-rank .post) also-inv also-turns
     (λ c. (so-begins (c .before .pre .1) expression-first, refl))
     (λ c κs. ready-leaves (c .before .before .loop .inv .0 .room) (c .before .before .loop .inv .0 .same) refl (c .before .before .before .before .pre
     .1)) (λ c. search needs) (λ c. many-ends _ _ _ _ expression-last no-expression-counted refl (c .before .before .before .before .loop .inv .0) (c
     .before .kind-here .ensures .1) (ne-eqb _ _ (c .if1 .taken))) (λ c κs. pair (c .before .before .kind-here .ensures .0) (omega arith))
     (λ c κs. pair (omega arith) (past-symbol refl (c .before .expect .ensures))) (λ c. omega arith) (λ c. omega arith) (λ c. omega arith)
     (also-loop-again t) (λ c. search needs)
-    (λ c. many-spent _ _ _ _ expression-last no-expression-counted refl (c .before .loop .inv .0) (omega arith)))
+    (λ c. many-spent _ _ _ _ expression-last no-expression-counted refl (c .before .loop .inv .0) (omega arith))
 
-abbrev rest-cs : ℕ → List Callee
-rest-cs t = expect ∷ below arg-rank t ∷ []
+abbrev pub rest-cs : ℕ → Calls cycle.Lts-rest.Claims
+rest-cs t = calls-2 expect (below arg-rank t)
 
 abbrev rest-inv : cycle.Lts-rest.InvT-loop
 rest-inv s₀ n levels number left₀ a₀ s left a =
@@ -289,27 +280,25 @@ rest-inv s₀ n levels number left₀ a₀ s left a =
 abbrev rest-turns : cycle.Lts-rest.MeasureT-loop
 rest-turns s₀ n levels number left₀ a₀ s left a = left
 
-rest-loop-again : (t : ℕ) → cycle.Lts-rest.Need-loop-again (claims-2 (asked rest-cs t)) (at rest-rank t) (rest-rank .post) rest-inv rest-turns
+rest-loop-again : (t : ℕ) → cycle.Lts-rest.Need-loop-again (rest-cs t .claims) (at rest-rank t) (rest-rank .post) rest-inv rest-turns
 rest-loop-again t c =
     let after-arg = c .before .before in let after-expect = after-arg .before .before in let in-loop = after-expect .before .before .before in let
     start = in-loop .before .before in so-turns (in-loop .loop .inv) (C.further (readers (within (start .args .levels))) (in-loop .loop .left - 1))
     value-next (further-reads _ (after-expect .expect .ensures .1) (after-arg .arg .ensures .1)) (after-arg .arg .kept .0)
     (λ src l at free e. value-turn (start .args .levels) src (in-loop .loop .left) at (omega arith))
 
-pub rest-ok : {M : Type 1} (t : ℕ) → cycle.Lts-rest.Closed (claims-2 (rest-cs t)) (at rest-rank t) (rest-rank .post) M
+pub rest-ok : {M : Type 1} (t : ℕ) → cycle.Lts-rest.Closed (rest-cs t .claims) (at rest-rank t) (rest-rank .post) M
 rest-ok t =
-    knowing (rest-cs t) _
-    (cycle.Lts-rest.spec (claims-2 (asked rest-cs t)) (at rest-rank t) (rest-rank .post) rest-inv rest-turns
-    (λ c. so-begins (c .before .pre .1) before-first) (λ c κs. pair (ready-leaves (c .before .before .loop .inv .room) (c .before .before .loop .inv
-    .same) refl (c .before .before .before .before .pre .1)) (omega arith))
-    (λ c κs. pair (omega arith) (past-symbol refl (c .before .expect .ensures))) (λ c. omega arith) (λ c. omega arith) (rest-loop-again t)
-    (λ c. search needs) (λ c. so-ends (c .before .loop .inv) T.noExpressions before-last (wordless no-expression-words) (λ src l at free e. value-last
-    (c .before .before .before .args .levels) src _ at (omega arith))))
+    cycle.Lts-rest.spec (rest-cs t .claims) (at rest-rank t) (rest-rank .post) rest-inv rest-turns (λ c. so-begins (c .before .pre .1) before-first)
+    (λ c κs. pair (ready-leaves (c .before .before .loop .inv .room) (c .before .before .loop .inv .same) refl (c .before .before .before .before .pre
+    .1)) (omega arith)) (λ c κs. pair (omega arith) (past-symbol refl (c .before .expect .ensures))) (λ c. omega arith) (λ c. omega arith)
+    (rest-loop-again t) (λ c. search needs) (λ c. so-ends (c .before .loop .inv) T.noExpressions before-last (wordless no-expression-words) (λ src l
+    at free e. value-last (c .before .before .before .args .levels) src _ at (omega arith)))
 
-abbrev index-cs : ℕ → List Callee
-index-cs t = free-of ∷ expect ∷ below key-rank t ∷ close-item ∷ []
+abbrev pub index-cs : ℕ → Calls cycle.Lts-index.Claims
+index-cs t = calls-4 free-of expect (below key-rank t) close-item
 
-index-returns : (t : ℕ) → cycle.Lts-index.Need-returns (claims-4 (asked index-cs t)) (at index-rank t) (index-rank .post)
+index-returns : (t : ℕ) → cycle.Lts-index.Need-returns (index-cs t .claims) (at index-rank t) (index-rank .post)
 index-returns t c =
     let after-close-item = c .before .before in let after-key = after-close-item .before .before .before .before in let after-expect = after-key
     .before .before in let after-free-of = after-expect .before .before in pair
@@ -317,32 +306,31 @@ index-returns t c =
     refl) (λ src l. index-read src _ _ (after-free-of .free-of .ensures .1) (after-expect .expect .ensures .1 .1 src l) (after-key .key .ensures .1 .1
     src l) (after-close-item .close-item .ensures .1 .1))
 
-pub index-ok : {M : Type 1} (t : ℕ) → cycle.Lts-index.Closed (claims-4 (index-cs t)) (at index-rank t) (index-rank .post) M
+pub index-ok : {M : Type 1} (t : ℕ) → cycle.Lts-index.Closed (index-cs t .claims) (at index-rank t) (index-rank .post) M
 index-ok t =
-    knowing (index-cs t) _
-    (cycle.Lts-index.spec (claims-4 (asked index-cs t)) (at index-rank t) (index-rank .post) (λ c κs. tt) (λ c κs. omega arith)
+    cycle.Lts-index.spec (index-cs t .claims) (at index-rank t) (index-rank .post) (λ c κs. tt) (λ c κs. omega arith)
     (λ c κs. pair (omega arith) (past-symbol refl (c .before .expect .ensures)))
     (λ c κs. ready-leaves (c .before .before .before .key .ensures .1 .0) (c .before .before .before .key .kept .0) refl (past-symbol refl (c .before
-    .before .before .before .before .expect .ensures))) (λ c. search needs) (index-returns t))
+    .before .before .before .before .expect .ensures))) (λ c. search needs) (index-returns t)
 
-abbrev key-cs : ℕ → List Callee
-key-cs t = kind-here ∷ is-monadic ∷ below monad-rank t ∷ below unit-rank t ∷ []
+abbrev pub key-cs : ℕ → Calls cycle.Lts-key.Claims
+key-cs t = calls-4 kind-here is-monadic (below monad-rank t) (below unit-rank t)
 
-key-returns : (t : ℕ) → cycle.Lts-key.Need-returns (claims-4 (key-cs t)) (at key-rank t) (key-rank .post)
+key-returns : (t : ℕ) → cycle.Lts-key.Need-returns (key-cs t .claims) (at key-rank t) (key-rank .post)
 key-returns t c =
     let after-monad = c .before .before in let after-if1 = after-monad .before .before in let after-is-monadic = after-if1 .before in let
-    after-kind-here = after-is-monadic .before in subscript-monadic _ (after-kind-here .kind-here .ensures) (after-is-monadic .is-monadic .ensures)
-    (after-if1 .if1 .taken) (after-monad .monad .ensures)
+    after-kind-here = after-is-monadic .before in subscript-monadic _ (after-kind-here .kind-here .ensures .1)
+    (after-is-monadic .is-monadic .ensures .1) (after-if1 .if1 .taken) (after-monad .monad .ensures .1)
 
-key-returns-2 : (t : ℕ) → cycle.Lts-key.Need-returns-2 (claims-4 (key-cs t)) (at key-rank t) (key-rank .post)
+key-returns-2 : (t : ℕ) → cycle.Lts-key.Need-returns-2 (key-cs t .claims) (at key-rank t) (key-rank .post)
 key-returns-2 t c =
     let after-unit = c .before .before in let after-if1 = after-unit .before .before in let after-is-monadic = after-if1 .before in let
-    after-kind-here = after-is-monadic .before in subscript-primary _ (after-kind-here .kind-here .ensures) (after-is-monadic .is-monadic .ensures)
-    (after-if1 .if1 .left) (after-unit .unit .ensures)
+    after-kind-here = after-is-monadic .before in subscript-primary _ (after-kind-here .kind-here .ensures .1)
+    (after-is-monadic .is-monadic .ensures .1) (after-if1 .if1 .left) (after-unit .unit .ensures .1)
 
-pub key-ok : {M : Type 1} (t : ℕ) → cycle.Lts-key.Closed (claims-4 (key-cs t)) (at key-rank t) (key-rank .post) M
+pub key-ok : {M : Type 1} (t : ℕ) → cycle.Lts-key.Closed (key-cs t .claims) (at key-rank t) (key-rank .post) M
 key-ok t =
-    cycle.Lts-key.spec (claims-4 (key-cs t)) (at key-rank t) (key-rank .post) (λ c κs. omega arith) (λ c κs. tt)
+    cycle.Lts-key.spec (key-cs t .claims) (at key-rank t) (key-rank .post) (λ c κs. omega arith) (λ c κs. tt)
     (λ c κs. let if1 = c .before in let is-monadic = if1 .before in let start = is-monadic .before .before .before .before in pair (omega arith) (pair
-    (start .pre .1) (monadic-positive _ (is-monadic .is-monadic .ensures) (if1 .if1 .taken)))) (λ c κs. omega arith) (λ c. search needs)
+    (start .pre .1) (monadic-positive _ (is-monadic .is-monadic .ensures .1) (if1 .if1 .taken)))) (λ c κs. omega arith) (λ c. search needs)
     (key-returns t) (λ c. search needs) (key-returns-2 t)
