@@ -27,32 +27,6 @@ use cycle.Proof.Ranks.{node, optional, optional-by, pick-rank, refuse, rest-rank
 abbrev pub step-cs : ℕ → Calls cycle.Lts-step.Claims
 step-cs t = calls-8 free-of expect a-name (below expr-rank t) optional-by minus (below cmd-rank t) node
 
-step-returns : (t : ℕ) → cycle.Lts-step.Need-returns (step-cs t .claims) (at step-rank t) (step-rank .post)
-step-returns t c =
-    let after-node = c .before .before in let after-cmd = after-node .before .before .before .before in let after-expect4 = after-cmd .before .before
-    in let after-minus = after-expect4 .before .before in let after-free-of3 = after-minus .before in let after-free-of2 = after-free-of3 .before
-    .before in let after-optional-by = after-free-of2 .before .before .before .before in let after-expr2 = after-optional-by .before .before .before
-    .before in let after-expect3 = after-expr2 .before .before in let after-expr = after-expect3 .before .before .before .before in let after-expect2
-    = after-expr .before .before in let after-a-name = after-expect2 .before .before .before .before in let after-expect = after-a-name .before
-    .before in let after-free-of = after-expect .before .before in pair
-    (room-left (left (after-expect .expect .ensures .1 .0) plus (after-a-name .a-name .ensures .1 .0) plus (after-expect2 .expect2 .ensures .1 .0)
-    plus (after-expr .expr .ensures .1 .0) plus (after-expect3 .expect3 .ensures .1 .0) plus (after-expr2 .expr2 .ensures .1 .0) plus
-    (after-optional-by .optional-by .ensures .1 .0) plus (after-expect4 .expect4 .ensures .1 .0) plus (after-cmd .cmd .ensures .1 .0) less (after-node
-    .node .ensures .1 .0)) refl) (λ src l. (let l₂ = lies-still l (after-a-name .a-name .ensures .1 .0 .kept) in let l₄ = lies-still l₂ (after-expr
-    .expr .ensures .1 .0 .kept) in let l₆ = lies-still l₄ (after-expr2 .expr2 .ensures .1 .0 .kept) in let l₇ = lies-still l₆ (after-optional-by
-    .optional-by .ensures .1 .0 .kept) in for-read l _ _ (after-free-of .free-of .ensures .1) (after-expect .expect .ensures .1 .1 src l)
-    (after-a-name .a-name .ensures .1 .1 src l) (after-expect2 .expect2 .ensures .1 .1 src l₂) (after-expr .expr .ensures .1 .1 src l₂) (after-expect3
-    .expect3 .ensures .1 .1 src l₄) (after-expr2 .expr2 .ensures .1 .1 src l₄) (after-optional-by .optional-by .ensures .1 .1 src l₆) (after-expect4
-    .expect4 .ensures .1 .1 src l₇) (after-cmd .cmd .ensures .1 .1 src l₇) (omega (
-      arith,
-      after-minus .minus .ensures .1,
-      freed _ (after-free-of2
-          .free-of2 .ensures .1) (after-optional-by .optional-by .kept .0 ∙ after-expr2 .expr2 .kept .0 ∙ after-expr .expr .kept .0 ∙ after-a-name .a-name
-          .kept .0),
-      freed _ (after-free-of3 .free-of3 .ensures .1) (after-optional-by .optional-by .kept .0 ∙ after-expr2 .expr2 .kept .0 ∙ after-expr
-          .expr .kept .0 ∙ after-a-name .a-name .kept .0),
-    )) (after-node .node .ensures .1 .1)))
-
 pub step-ok : {M : Type 1} (t : ℕ) → cycle.Lts-step.Closed (step-cs t .claims) (at step-rank t) (step-rank .post) M
 step-ok t =
     cycle.Lts-step.spec (step-cs t .claims) (at step-rank t) (step-rank .post) (λ c κs. tt) (λ c κs. omega arith)
@@ -67,37 +41,43 @@ step-ok t =
     )) (pair (past-symbol refl (c .before .expect3 .ensures)) (omega arith)))
     (λ c κs. let e = c .before .before .before .expr2 in past-expression refl (e .ensures) (e .kept .0)) (λ c κs. tt) (λ c κs. tt) (λ c κs. tt)
     (λ c κs. let e = c .before .before .before .before .before .before .before .before .optional-by in pair (ready-leaves (e .ensures .1 .0) (e .kept
-    .0) refl (e .ensures .0)) (omega arith)) (λ c κs. pair (omega (
+    .0) refl (e .ensures .0)) (omega arith))
+    (λ c κs. pair (omega (
       arith,
-      c .before .before .before .before .before .before .before .before .before
+      c .before .before .before .before .before .before .before .before .before .before .before .before .before .before
           .before .before .before .before .before .before .before .before .before .before .before .before .before .before .before .before .before .before
-          .before .before .before .before .before .before .pre .0,
+          .before .pre .0,
     )) (past-symbol refl (c .before .expect4 .ensures)))
     (λ c. let expect4 = c .before .before .before .before .before in let minus = expect4 .before .before in let free-of2 = minus .before .before
     .before in omega (arith, size-small _ (minus .minus .ensures .1) (free-of2 .free-of2 .ensures .1) (expect4 .expect4 .ensures .0 .0)))
     (λ c κs. ready-leaves (c .before .before .before .cmd .ensures .1 .0) (c .before .before .before .cmd .kept .0) refl (past-symbol refl (c .before
-    .before .before .before .before .expect4 .ensures))) (λ c. let node = c .before .before in let cmd = node .before .before .before .before in let
-    optional-by = cmd .before .before .before .before .before .before .before .before .before .before .before in let expr2 = optional-by .before
-    .before .before .before in let expr = expr2 .before .before .before .before .before .before in let a-name = expr .before .before .before .before
-    .before .before in node .node .kept .0 ∙ cmd .cmd .kept .0 ∙ optional-by .optional-by .kept .0 ∙ expr2 .expr2 .kept .0 ∙ expr .expr .kept .0 ∙
-    a-name .a-name .kept .0) (step-returns t)
+    .before .before .before .before .expect4 .ensures)))
+    (λ c. let node = c .before .before in let cmd = node .before .before .before .before in let optional-by = cmd .before .before .before .before
+    .before .before .before .before .before .before .before in let expr2 = optional-by .before .before .before .before in let expr = expr2 .before
+    .before .before .before .before .before in let a-name = expr .before .before .before .before .before .before in node .node .kept .0 ∙ cmd .cmd
+    .kept .0 ∙ optional-by .optional-by .kept .0 ∙ expr2 .expr2 .kept .0 ∙ expr .expr .kept .0 ∙ a-name .a-name .kept .0)
+    (λ c. let node = c .before .before in let cmd = node .before .before .before .before in let expect4 = cmd .before .before in let minus = expect4
+    .before .before in let free-of3 = minus .before in let free-of2 = free-of3 .before .before in let optional-by = free-of2 .before .before .before
+    .before in let expr2 = optional-by .before .before .before .before in let expect3 = expr2 .before .before in let expr = expect3 .before .before
+    .before .before in let expect2 = expr .before .before in let a-name = expect2 .before .before .before .before in let expect = a-name .before
+    .before in let free-of = expect .before .before in pair (room-left (left (expect .expect .ensures .1 .0) plus (a-name .a-name .ensures .1 .0) plus
+    (expect2 .expect2 .ensures .1 .0) plus (expr .expr .ensures .1 .0) plus (expect3 .expect3 .ensures .1 .0) plus (expr2 .expr2 .ensures .1 .0) plus
+    (optional-by .optional-by .ensures .1 .0) plus (expect4 .expect4 .ensures .1 .0) plus (cmd .cmd .ensures .1 .0) less (node .node .ensures .1 .0))
+    refl) (λ src l. (let l₂ = lies-still l (a-name .a-name .ensures .1 .0 .kept) in let l₄ = lies-still l₂ (expr .expr .ensures .1 .0 .kept) in let l₆
+    = lies-still l₄ (expr2 .expr2 .ensures .1 .0 .kept) in let l₇ = lies-still l₆ (optional-by .optional-by .ensures .1 .0 .kept) in for-read l _ _
+    (free-of .free-of .ensures .1) (expect .expect .ensures .1 .1 src l) (a-name .a-name .ensures .1 .1 src l) (expect2 .expect2 .ensures .1 .1 src
+    l₂) (expr .expr .ensures .1 .1 src l₂) (expect3 .expect3 .ensures .1 .1 src l₄) (expr2 .expr2 .ensures .1 .1 src l₄) (optional-by .optional-by
+    .ensures .1 .1 src l₆) (expect4 .expect4 .ensures .1 .1 src l₇) (cmd .cmd .ensures .1 .1 src l₇) (omega (
+      arith,
+      minus .minus .ensures .1,
+      freed _
+          (free-of2 .free-of2 .ensures .1) (optional-by .optional-by .kept .0 ∙ expr2 .expr2 .kept .0 ∙ expr .expr .kept .0 ∙ a-name .a-name .kept .0),
+      freed _ (free-of3 .free-of3 .ensures .1) (optional-by .optional-by .kept .0 ∙ expr2 .expr2 .kept .0 ∙ expr .expr .kept .0 ∙ a-name .a-name .kept
+          .0),
+    )) (node .node .ensures .1 .1))))
 
 abbrev pub pick-cs : ℕ → Calls cycle.Lts-pick.Claims
 pick-cs t = calls-7 free-of expect (below expr-rank t) minus (below item-rank t) (below list-rank t) node
-
-pick-returns : (t : ℕ) → cycle.Lts-pick.Need-returns (pick-cs t .claims) (at pick-rank t) (pick-rank .post)
-pick-returns t c =
-    let after-node = c .before .before in let after-list = after-node .before .before .before .before in let after-item = after-list .before .before
-    .before .before in let after-expect3 = after-item .before .before in let after-expect2 = after-expect3 .before .before in let after-minus =
-    after-expect2 .before .before in let after-free-of2 = after-minus .before in let after-expr = after-free-of2 .before .before .before .before in
-    let after-expect = after-expr .before .before in let after-free-of = after-expect .before .before in pair
-    (room-left (left (after-expect .expect .ensures .1 .0) plus (after-expr .expr .ensures .1 .0) plus (after-expect2 .expect2 .ensures .1 .0) plus
-    (after-expect3 .expect3 .ensures .1 .0) less (after-item .item .ensures .1 .0) plus (after-list .list .ensures .1 .0) less (after-node .node
-    .ensures .1 .0)) refl) (λ src l. (let l₂ = lies-still l (after-expr .expr .ensures .1 .0 .kept) in let l₃ = lies-still l₂ (after-item .item
-    .ensures .1 .0 .kept) in switchon-read l _ _ (after-free-of .free-of .ensures .1) (after-expect .expect .ensures .1 .1 src l) (after-expr .expr
-    .ensures .1 .1 src l) (after-expect2 .expect2 .ensures .1 .1 src l₂) (after-expect3 .expect3 .ensures .1 .1 src l₂) (after-item .item .ensures .1
-    .1 src l₂) (after-list .list .ensures .1 .1 src l₃) (measured _ _ (after-minus .minus .ensures .1) (after-free-of2 .free-of2 .ensures .1)
-    (after-expr .expr .kept .0)) (after-node .node .ensures .1 .1)))
 
 pub pick-ok : {M : Type 1} (t : ℕ) → cycle.Lts-pick.Closed (pick-cs t .claims) (at pick-rank t) (pick-rank .post) M
 pick-ok t =
@@ -117,30 +97,39 @@ pick-ok t =
       arith,
       size-small _ (minus .minus .ensures .1) (free-of2 .free-of2 .ensures .1) (expect2
           .expect2 .ensures .0 .0),
-    )) (λ c κs. ready-leaves (c .before .before .before .list .ensures .1 .0) (c .before .before .before .list .kept .0) refl
-    (c .before .before .before .list .ensures .0 .1)) (λ c. let node = c .before .before in let at-list = node .before .before .before .before in let
-    item = at-list .before .before .before .before in let expr = item .before .before .before .before .before .before .before .before .before .before
-    .before in node .node .kept .0 ∙ at-list .list .kept .0 ∙ item .item .kept .0 ∙ expr .expr .kept .0) (pick-returns t)
+    ))
+    (λ c κs. ready-leaves (c .before .before .before .list .ensures .1 .0) (c .before .before .before .list .kept .0) refl (c .before .before .before
+    .list .ensures .0 .1))
+    (λ c. let node = c .before .before in let at-list = node .before .before .before .before in let item = at-list .before .before .before .before in
+    let expr = item .before .before .before .before .before .before .before .before .before .before .before in node .node .kept .0 ∙ at-list .list
+    .kept .0 ∙ item .item .kept .0 ∙ expr .expr .kept .0)
+    (λ c. let node = c .before .before in let list = node .before .before .before .before in let item = list .before .before .before .before in let
+    expect3 = item .before .before in let expect2 = expect3 .before .before in let minus = expect2 .before .before in let free-of2 = minus .before in
+    let expr = free-of2 .before .before .before .before in let expect = expr .before .before in let free-of = expect .before .before in pair
+    (room-left (left (expect .expect .ensures .1 .0) plus (expr .expr .ensures .1 .0) plus (expect2 .expect2 .ensures .1 .0) plus (expect3 .expect3
+    .ensures .1 .0) less (item .item .ensures .1 .0) plus (list .list .ensures .1 .0) less (node .node .ensures .1 .0)) refl) (λ src l. (let l₂ =
+    lies-still l (expr .expr .ensures .1 .0 .kept) in let l₃ = lies-still l₂ (item .item .ensures .1 .0 .kept) in switchon-read l _ _ (free-of
+    .free-of .ensures .1) (expect .expect .ensures .1 .1 src l) (expr .expr .ensures .1 .1 src l) (expect2 .expect2 .ensures .1 .1 src l₂) (expect3
+    .expect3 .ensures .1 .1 src l₂) (item .item .ensures .1 .1 src l₂) (list .list .ensures .1 .1 src l₃) (measured _ _ (minus .minus .ensures .1)
+    (free-of2 .free-of2 .ensures .1) (expr .expr .kept .0)) (node .node .ensures .1 .1))))
 
 abbrev pub item-cs : ℕ → Calls cycle.Lts-item.Claims
 item-cs t = calls-4 free-of begin-item (below cmd-rank t) set-size
-
-item-returns : (t : ℕ) → cycle.Lts-item.Need-returns (item-cs t .claims) (at item-rank t) (item-rank .post)
-item-returns t c =
-    let after-set-size = c .before .before in let after-cmd = after-set-size .before .before .before .before in let after-begin-item = after-cmd
-    .before .before .before .before in let after-free-of = after-begin-item .before .before in let start = after-free-of .before .before .before in
-    pair (room-taken (taken (after-begin-item .begin-item .ensures .1 .0) plus (after-cmd .cmd .ensures .1 .0) plus (after-set-size .set-size .ensures
-    .1 .0)) refl) (λ src l. listed-read src _ _ (after-free-of .free-of .ensures .1) (low (start .pre .1)) (after-begin-item .begin-item .ensures .1
-    .1) (after-cmd .cmd .ensures .1 .1 src (lies-still l (after-begin-item .begin-item .ensures .1 .0 .kept))) (after-set-size .set-size .ensures .1
-    .1))
 
 pub item-ok : {M : Type 1} (t : ℕ) → cycle.Lts-item.Closed (item-cs t .claims) (at item-rank t) (item-rank .post) M
 item-ok t =
     cycle.Lts-item.spec (item-cs t .claims) (at item-rank t) (item-rank .post) (λ c κs. tt) (λ c κs. omega arith)
     (λ c κs. pair (omega arith) (ready-takes (c .before .before .before .begin-item .ensures .1 .0) (c .before .before .before .begin-item .kept .0)
-    (c .before .before .before .begin-item .ensures .0))) (λ c κs. let cmd = c .before .before .before in let begin-item = cmd .before .before .before
-    .before in let free-of = begin-item .before .before in pair (past-part refl (cmd .cmd .ensures) (cmd .cmd .kept .0)) (item-low (free-of .free-of
-    .ensures .1) (ready-part (begin-item .begin-item .ensures .0) refl))) (λ c. search needs) (item-returns t)
+    (c .before .before .before .begin-item .ensures .0)))
+    (λ c κs. let cmd = c .before .before .before in let begin-item = cmd .before .before .before .before in let free-of = begin-item .before .before
+    in pair (past-part refl (cmd .cmd .ensures) (cmd .cmd .kept .0)) (item-low (free-of .free-of .ensures .1) (ready-part (begin-item .begin-item
+    .ensures .0) refl)))
+    (λ c. search needs)
+    (λ c. let set-size = c .before .before in let cmd = set-size .before .before .before .before in let begin-item = cmd .before .before .before
+    .before in let free-of = begin-item .before .before in let start = free-of .before .before .before in pair (room-taken (taken (begin-item
+    .begin-item .ensures .1 .0) plus (cmd .cmd .ensures .1 .0) plus (set-size .set-size .ensures .1 .0)) refl) (λ src l. listed-read src _ _ (free-of
+    .free-of .ensures .1) (low (start .pre .1)) (begin-item .begin-item .ensures .1 .1) (cmd .cmd .ensures .1 .1 src (lies-still l (begin-item
+    .begin-item .ensures .1 .0 .kept))) (set-size .set-size .ensures .1 .1)))
 
 abbrev pub list-cs : ℕ → Calls cycle.Lts-list.Claims
 list-cs t = calls-4 kind-here expect (below item-rank t) refuse
@@ -153,70 +142,48 @@ list-inv s₀ n levels turns₀ a₀ s turns a =
 abbrev list-turns : cycle.Lts-list.MeasureT-loop
 list-turns s₀ n levels turns₀ a₀ s turns a = turns
 
-list-returns : (t : ℕ) → cycle.Lts-list.Need-returns (list-cs t .claims) (at list-rank t) (list-rank .post) list-inv list-turns
-list-returns t c =
-    let after-if1 = c .before .before in let after-kind-here = after-if1 .before in let in-loop = after-kind-here .before .before .before in list-ends
-    _ _ _ (in-loop .loop .inv) (after-kind-here .kind-here .ensures .1) no-command-words (after-if1 .if1 .taken) (c .expect .ensures .1) (omega arith)
-
-list-returns-2 : (t : ℕ) → cycle.Lts-list.Need-returns-2 (list-cs t .claims) (at list-rank t) (list-rank .post) list-inv list-turns
-list-returns-2 t c =
-    let after-if2 = c .before .before in let after-kind-here2 = after-if2 .before in let after-expect2 = after-kind-here2 .before .before in let
-    after-if1 = after-expect2 .before .before in let after-kind-here = after-if1 .before in let in-loop = after-kind-here .before .before .before in
-    list-semicolon-ends _ _ _ (in-loop .loop .inv) (after-kind-here .kind-here .ensures .1) no-command-words (after-if1 .if1 .left)
-    (after-expect2 .expect2 .ensures .1) (after-kind-here2 .kind-here2 .ensures .1) (after-if2 .if2 .taken) (c .expect3 .ensures .1) (omega arith)
-
-list-loop-again : (t : ℕ) → cycle.Lts-list.Need-loop-again (list-cs t .claims) (at list-rank t) (list-rank .post) list-inv list-turns
-list-loop-again t c =
-    let after-item = c .before .before in let after-if2 = after-item .before .before in let after-kind-here2 = after-if2 .before in let after-expect2
-    = after-kind-here2 .before .before in let after-if1 = after-expect2 .before .before in let after-kind-here = after-if1 .before in let in-loop =
-    after-kind-here .before .before .before in list-goes-on _ _ _ (in-loop .loop .inv) (after-kind-here .kind-here .ensures .1) (after-if1 .if1 .left)
-    (after-expect2 .expect2 .ensures .1) (after-kind-here2 .kind-here2 .ensures .1) (after-if2 .if2 .left)
-    (takes-more (after-item .item .ensures .1 .0) refl) (after-item .item .kept .0) (after-item .item .ensures .1 .1) (omega arith)
-
 pub list-ok : {M : Type 1} (t : ℕ) → cycle.Lts-list.Closed (list-cs t .claims) (at list-rank t) (list-rank .post) M
 list-ok t =
     cycle.Lts-list.spec (list-cs t .claims) (at list-rank t) (list-rank .post) list-inv list-turns (λ c. so-begins (c .before .pre .1) before-first)
     (λ c κs. ready-leaves (c .before .before .loop .inv .room) (c .before .before .loop .inv .same) refl (c .before .before .before .before .pre .1))
-    (λ c κs. pair (c .before .before .kind-here .ensures .0) (omega arith)) (λ c. search needs) (list-returns t)
+    (λ c κs. pair (c .before .before .kind-here .ensures .0) (omega arith)) (λ c. search needs)
+    (λ c. let if1 = c .before .before in let kind-here = if1 .before in let in-loop = kind-here .before .before .before in list-ends _ _ _ (in-loop
+    .loop .inv) (kind-here .kind-here .ensures .1) no-command-words (if1 .if1 .taken) (c .expect .ensures .1) (omega arith))
     (λ c κs. pair (c .before .before .kind-here .ensures .0) (omega arith)) (λ c κs. past-symbol refl (c .before .expect2 .ensures))
-    (λ c κs. pair (c .before .before .kind-here2 .ensures .0) (omega arith)) (λ c. search needs) (list-returns-2 t)
+    (λ c κs. pair (c .before .before .kind-here2 .ensures .0) (omega arith)) (λ c. search needs)
+    (λ c. let if2 = c .before .before in let kind-here2 = if2 .before in let expect2 = kind-here2 .before .before in let if1 = expect2 .before .before
+    in let kind-here = if1 .before in let in-loop = kind-here .before .before .before in list-semicolon-ends _ _ _ (in-loop .loop .inv) (kind-here
+    .kind-here .ensures .1) no-command-words (if1 .if1 .left) (expect2 .expect2 .ensures .1) (kind-here2 .kind-here2 .ensures .1) (if2 .if2 .taken) (c
+    .expect3 .ensures .1) (omega arith))
     (λ c κs. pair (omega arith) (past-symbol refl (c .before .before .before .before .expect2 .ensures))) (λ c. omega arith) (λ c. omega arith)
-    (list-loop-again t)
+    (λ c. let item = c .before .before in let if2 = item .before .before in let kind-here2 = if2 .before in let expect2 = kind-here2 .before .before
+    in let if1 = expect2 .before .before in let kind-here = if1 .before in let in-loop = kind-here .before .before .before in list-goes-on _ _ _
+    (in-loop .loop .inv) (kind-here .kind-here .ensures .1) (if1 .if1 .left) (expect2 .expect2 .ensures .1) (kind-here2 .kind-here2 .ensures .1) (if2
+    .if2 .left) (takes-more (item .item .ensures .1 .0) refl) (item .item .kept .0) (item .item .ensures .1 .1) (omega arith))
     (λ c κs. ready-leaves (c .before .before .loop .inv .room) (c .before .before .loop .inv .same) refl (c .before .before .before .before .pre .1))
     (λ c. search needs) (λ c. list-spents _ _ _ (c .before .before .before .loop .inv) (c .refuse .ensures .1) (omega arith))
 
 abbrev pub till-cs : ℕ → Calls cycle.Lts-till.Claims
 till-cs t = calls-4 kind-here expect (below item-rank t) (below list-rank t)
 
-till-returns-3 : (t : ℕ) → cycle.Lts-till.Need-returns-3 (till-cs t .claims) (at till-rank t) (till-rank .post)
-till-returns-3 t c =
-    let after-list = c .before .before in let after-item = after-list .before .before .before .before in let after-match = after-item .before .before
-    in let after-kind-here = after-match .before in some-commands _ (after-kind-here .kind-here .ensures .1) (after-match .match .rest)
-    (after-item .item .ensures .1) (after-list .list .ensures .1)
-
 pub till-ok : {M : Type 1} (t : ℕ) → cycle.Lts-till.Closed (till-cs t .claims) (at till-rank t) (till-rank .post) M
 till-ok t =
     cycle.Lts-till.spec (till-cs t .claims) (at till-rank t) (till-rank .post) (λ c κs. omega arith) (λ c κs. omega arith) (λ c κs. omega arith)
     (λ c κs. pair (past-symbol refl (c .before .expect2 .ensures)) (omega arith)) (λ c κs. omega arith)
     (λ c κs. pair (omega arith) (ready-takes (c .before .before .before .item .ensures .1 .0) (c .before .before .before .item .kept .0) (c .before
-    .before .before .item .ensures .0 .1))) (λ c. search needs)
+    .before .before .item .ensures .0 .1)))
+    (λ c. search needs)
     (λ c. no-commands _ (c .before .before .before .kind-here .ensures .1) (c .before .before .match .keys1) (c .expect .ensures .1))
-    (λ c. search needs) (λ c. semicolon-commands _ (c .before .before .before .before .before .kind-here .ensures .1) (c .before .before .before
-    .before .match .keys2) (c .before .before .expect2 .ensures .1) (c .expect3 .ensures .1)) (λ c. search needs) (till-returns-3 t)
+    (λ c. search needs)
+    (λ c. semicolon-commands _ (c .before .before .before .before .before .kind-here .ensures .1) (c .before .before .before .before .match .keys2) (c
+    .before .before .expect2 .ensures .1) (c .expect3 .ensures .1))
+    (λ c. search needs)
+    (λ c. let list = c .before .before in let item = list .before .before .before .before in let after-match = item .before .before in let kind-here =
+    after-match .before in some-commands _ (kind-here .kind-here .ensures .1) (after-match .match .rest) (item .item .ensures .1) (list .list .ensures
+    .1))
 
 abbrev pub block-cs : ℕ → Calls cycle.Lts-block.Claims
 block-cs t = calls-6 free-of expect (below lets-rank t) minus (below till-rank t) node
-
-block-returns : (t : ℕ) → cycle.Lts-block.Need-returns (block-cs t .claims) (at block-rank t) (block-rank .post)
-block-returns t c =
-    let after-node = c .before .before in let after-till = after-node .before .before .before .before in let after-minus = after-till .before .before
-    in let after-free-of2 = after-minus .before in let after-lets = after-free-of2 .before .before .before .before in let after-expect = after-lets
-    .before .before in let after-free-of = after-expect .before .before in pair
-    (room-left (left (after-expect .expect .ensures .1 .0) plus (after-lets .lets .ensures .1 .0) plus (after-till .till .ensures .1 .0) less
-    (after-node .node .ensures .1 .0)) refl) (λ src l. (let l₂ = lies-still l (after-lets .lets .ensures .1 .0 .kept) in block-read l _ _
-    (after-free-of .free-of .ensures .1) (after-expect .expect .ensures .1 .1 src l) (after-lets .lets .ensures .1 .1 src l) (after-till .till
-    .ensures .1 .1 src l₂) (measured _ _ (after-minus .minus .ensures .1) (after-free-of2 .free-of2 .ensures .1) (after-lets .lets .kept .0))
-    (after-node .node .ensures .1 .1)))
 
 pub block-ok : {M : Type 1} (t : ℕ) → cycle.Lts-block.Closed (block-cs t .claims) (at block-rank t) (block-rank .post) M
 block-ok t =
@@ -224,12 +191,21 @@ block-ok t =
     (λ c κs. pair (omega arith) (past-symbol refl (c .before .expect .ensures))) (λ c κs. tt) (λ c κs. tt)
     (λ c κs. pair (omega arith) (ready-leaves (c .before .before .before .before .before .before .lets .ensures .1 .0) (c .before .before .before
     .before .before .before .lets .kept .0) refl (past-symbol refl (c .before .before .before .before .before .before .before .before .expect
-    .ensures)))) (λ c. let till = c .before .before .before in let minus = till .before .before in let free-of2 = minus .before in omega (
+    .ensures))))
+    (λ c. let till = c .before .before .before in let minus = till .before .before in let free-of2 = minus .before in omega (
       arith,
-      size-small _ (minus .minus .ensures .1) (free-of2 .free-of2 .ensures .1) (ready-part (till .till .ensures .0 .1) refl),
+      size-small _
+          (minus .minus .ensures .1) (free-of2 .free-of2 .ensures .1) (ready-part (till .till .ensures .0 .1) refl),
     ))
     (λ c κs. ready-leaves (c .before .before .before .till .ensures .1 .0) (c .before .before .before .till .kept .0) refl (ready-part (c .before
-    .before .before .till .ensures .0 .1) refl)) (λ c. search needs) (block-returns t)
+    .before .before .till .ensures .0 .1) refl))
+    (λ c. search needs)
+    (λ c. let node = c .before .before in let till = node .before .before .before .before in let minus = till .before .before in let free-of2 = minus
+    .before in let lets = free-of2 .before .before .before .before in let expect = lets .before .before in let free-of = expect .before .before in
+    pair (room-left (left (expect .expect .ensures .1 .0) plus (lets .lets .ensures .1 .0) plus (till .till .ensures .1 .0) less (node .node .ensures
+    .1 .0)) refl) (λ src l. (let l₂ = lies-still l (lets .lets .ensures .1 .0 .kept) in block-read l _ _ (free-of .free-of .ensures .1) (expect
+    .expect .ensures .1 .1 src l) (lets .lets .ensures .1 .1 src l) (till .till .ensures .1 .1 src l₂) (measured _ _ (minus .minus .ensures .1)
+    (free-of2 .free-of2 .ensures .1) (lets .lets .kept .0)) (node .node .ensures .1 .1))))
 
 abbrev pub lets-cs : ℕ → Calls cycle.Lts-lets.Claims
 lets-cs t = calls-2 kind-here (below local-rank t)
@@ -242,51 +218,23 @@ lets-inv s₀ n levels turns₀ a₀ s turns a =
 abbrev lets-turns : cycle.Lts-lets.MeasureT-loop
 lets-turns s₀ n levels turns₀ a₀ s turns a = turns
 
-lets-loop-again : (t : ℕ) → cycle.Lts-lets.Need-loop-again (lets-cs t .claims) (at lets-rank t) (lets-rank .post) lets-inv lets-turns
-lets-loop-again t c =
-    let after-local = c .before .before in let after-if1 = after-local .before .before in let after-kind-here = after-if1 .before in let in-loop =
-    after-kind-here .before .before .before in many-turns _ _ _ _ before-next (in-loop .loop .inv) (after-kind-here .kind-here .ensures .1)
-    (eq-eqb _ _ (after-if1 .if1 .left)) (at-any (after-local .local .ensures .1)) (after-local .local .kept .0) (omega arith)
-
 pub lets-ok : {M : Type 1} (t : ℕ) → cycle.Lts-lets.Closed (lets-cs t .claims) (at lets-rank t) (lets-rank .post) M
 lets-ok t =
     cycle.Lts-lets.spec (lets-cs t .claims) (at lets-rank t) (lets-rank .post) lets-inv lets-turns (λ c. so-begins (c .before .pre .1) before-first)
     (λ c κs. ready-leaves (c .before .before .loop .inv .room) (c .before .before .loop .inv .same) refl (c .before .before .before .before .pre .1))
-    (λ c. search needs) (λ c. many-ends _ _ _ _ before-last (wordless no-local-words) refl (c .before .before .before .before .loop .inv) (c .before
-    .kind-here .ensures .1) (ne-eqb _ _ (c .if1 .taken))) (λ c κs. pair (omega arith) (ready-leaves (c .before .before .before .before .before .loop
-    .inv .room) (c .before .before .before .before .before .loop .inv .same) refl (c .before .before .before .before .before .before .before .pre
-    .1))) (λ c. omega arith) (λ c. omega arith) (lets-loop-again t) (λ c. search needs)
-    (λ c. many-spent _ _ _ _ before-last (wordless no-local-words) refl (c .before .loop .inv) (omega arith))
+    (λ c. search needs)
+    (λ c. many-ends _ _ _ _ before-last (wordless no-local-words) refl (c .before .before .before .before .loop .inv) (c .before .kind-here .ensures
+    .1) (ne-eqb _ _ (c .if1 .taken)))
+    (λ c κs. pair (omega arith) (ready-leaves (c .before .before .before .before .before .loop .inv .room) (c .before .before .before .before .before
+    .loop .inv .same) refl (c .before .before .before .before .before .before .before .pre .1)))
+    (λ c. omega arith) (λ c. omega arith)
+    (λ c. let local = c .before .before in let if1 = local .before .before in let kind-here = if1 .before in let in-loop = kind-here .before .before
+    .before in many-turns _ _ _ _ before-next (in-loop .loop .inv) (kind-here .kind-here .ensures .1) (eq-eqb _ _ (if1 .if1 .left)) (at-any (local
+    .local .ensures .1)) (local .local .kept .0) (omega arith))
+    (λ c. search needs) (λ c. many-spent _ _ _ _ before-last (wordless no-local-words) refl (c .before .loop .inv) (omega arith))
 
 abbrev pub local-cs : ℕ → Calls cycle.Lts-local.Claims
 local-cs t = calls-9 free-of expect begin-item a-name further-names minus (below init-rank t) optional set-size
-
-local-returns : (t : ℕ) → cycle.Lts-local.Need-returns (local-cs t .claims) (at local-rank t) (local-rank .post)
-local-returns t c =
-    let after-set-size = c .before .before in let after-optional = after-set-size .before .before in let after-init = after-optional .before .before
-    .before .before in let after-expect2 = after-init .before .before in let after-minus = after-expect2 .before .before in let after-free-of4 =
-    after-minus .before in let after-free-of3 = after-free-of4 .before .before in let after-further-names = after-free-of3 .before .before .before
-    .before in let after-a-name = after-further-names .before .before .before .before in let after-free-of2 = after-a-name .before .before in let
-    after-begin-item = after-free-of2 .before .before .before .before in let after-expect = after-begin-item .before .before in let after-free-of =
-    after-expect .before .before in let start = after-free-of .before .before .before in pair
-    (room-left (left (after-expect .expect .ensures .1 .0) less (after-begin-item .begin-item .ensures .1 .0) plus (after-a-name .a-name .ensures .1
-    .0) plus (after-further-names .further-names .ensures .1 .0) plus (after-expect2 .expect2 .ensures .1 .0) less (after-init .init .ensures .1 .0)
-    plus (after-optional .optional .ensures .1 .0) plus (after-set-size .set-size .ensures .1 .0)) refl)
-    (λ src l. (let l₁ = lies-still l (after-begin-item .begin-item .ensures .1 .0 .kept) in let l₂ = lies-still l₁ (after-a-name .a-name .ensures .1
-    .0 .kept) in let l₃ = lies-still l₂ (after-further-names .further-names .ensures .1 .0 .kept) in let l₄ = lies-still l₃ (after-init .init .ensures
-    .1 .0 .kept) in local-read src _ _ (l .count) (after-free-of .free-of .ensures .1) (low-past (start .pre .1) (after-expect .expect .ensures .1
-    .0)) (freed _ (after-free-of2 .free-of2 .ensures .1) (after-begin-item .begin-item .kept .0)) (omega (
-      arith,
-      after-minus .minus .ensures .1,
-      freed _ (after-free-of3 .free-of3 .ensures .1) (after-further-names .further-names .kept .0 ∙ after-a-name .a-name .kept .0 ∙ after-begin-item
-          .begin-item .kept .0),
-      freed _ (after-free-of4 .free-of4 .ensures .1) (after-further-names .further-names .kept .0 ∙ after-a-name .a-name .kept .0
-          ∙ after-begin-item .begin-item .kept .0),
-    )) (after-expect .expect .ensures .1 .1 src l) (after-begin-item .begin-item .ensures .1 .1)
-    (after-a-name .a-name .ensures .1 .1 src l₁) (after-further-names .further-names .ensures .1 .1 src l₂) (after-expect2 .expect2 .ensures .1 .1 src
-    l₃) (λ name names q e. after-init .init .ensures .1 .1 src l₃ .1 name names q (ap (λ (z : ℕ). freeOf z (after-expect2 .expect2 .result))
-    (after-further-names .further-names .kept .0 ∙ after-a-name .a-name .kept .0 ∙ after-begin-item .begin-item .kept .0) ∙ e)) (after-init .init
-    .ensures .1 .1 src l₃ .0) (after-optional .optional .ensures .1 .1 src l₄) (after-set-size .set-size .ensures .1 .1)))
 
 pub local-ok : {M : Type 1} (t : ℕ) → cycle.Lts-local.Closed (local-cs t .claims) (at local-rank t) (local-rank .post) M
 local-ok t =
@@ -295,59 +243,74 @@ local-ok t =
     (λ c κs. ready-takes (c .before .before .before .before .before .begin-item .ensures .1 .0) (c .before .before .before .before .before .begin-item
     .kept .0) (c .before .before .before .before .before .begin-item .ensures .0))
     (λ c κs. let e = c .before .before .before .a-name in ready-leaves (e .ensures .1 .0) (e .kept .0) refl (e .ensures .0)) (λ c κs. tt) (λ c κs. tt)
-    (λ c κs. tt) (λ c κs. let e = c .before .before .before .before .before .before .before .before .further-names in pair (ready-leaves (e .ensures
-    .1 .0) (e .kept .0) refl (e .ensures .0)) (omega arith)) (λ c κs. pair (omega (
+    (λ c κs. tt)
+    (λ c κs. let e = c .before .before .before .before .before .before .before .before .further-names in pair (ready-leaves (e .ensures .1 .0) (e
+    .kept .0) refl (e .ensures .0)) (omega arith))
+    (λ c κs. pair (omega (
       arith,
-      c .before .before .before .before .before .before .before
-          .before .before .before .before .before .before .before .before .before .before .before .before .before .before .before .before .before .before
-          .before .before .pre .0,
-    )) (past-symbol refl (c .before .expect2 .ensures)))
+      c .before .before .before .before .before .before .before .before .before .before .before .before .before .before
+          .before .before .before .before .before .before .before .before .before .before .before .before .before .pre .0,
+    )) (past-symbol refl (c .before
+    .expect2 .ensures)))
     (λ c κs. pair (ready-takes (c .before .before .before .init .ensures .1 .0) (c .before .before .before .init .kept .0) (c .before .before .before
-    .init .ensures .0 .1)) (omega arith)) (λ c κs. let optional = c .before in let expect = optional .before .before .before .before .before .before
-    .before .before .before .before .before .before .before .before .before .before .before .before .before .before .before .before .before .before
-    .before .before .before in let free-of = expect .before .before in pair (ready-leaves (optional .optional .ensures .1 .0) refl refl (optional
-    .optional .ensures .0 .0)) (item-low (free-of .free-of .ensures .1) (expect .expect .ensures .0 .0)))
+    .init .ensures .0 .1)) (omega arith))
+    (λ c κs. let optional = c .before in let expect = optional .before .before .before .before .before .before .before .before .before .before .before
+    .before .before .before .before .before .before .before .before .before .before .before .before .before .before .before .before in let free-of =
+    expect .before .before in pair (ready-leaves (optional .optional .ensures .1 .0) refl refl (optional .optional .ensures .0 .0)) (item-low (free-of
+    .free-of .ensures .1) (expect .expect .ensures .0 .0)))
     (λ c. let set-size = c .before .before in let init = set-size .before .before .before .before .before .before in let further-names = init .before
     .before .before .before .before .before .before .before .before .before .before in let a-name = further-names .before .before .before .before in
     let begin-item = a-name .before .before .before .before .before .before in set-size .set-size .kept .0 ∙ init .init .kept .0 ∙ further-names
-    .further-names .kept .0 ∙ a-name .a-name .kept .0 ∙ begin-item .begin-item .kept .0) (local-returns t)
+    .further-names .kept .0 ∙ a-name .a-name .kept .0 ∙ begin-item .begin-item .kept .0)
+    (λ c. let set-size = c .before .before in let optional = set-size .before .before in let init = optional .before .before .before .before in let
+    expect2 = init .before .before in let minus = expect2 .before .before in let free-of4 = minus .before in let free-of3 = free-of4 .before .before
+    in let further-names = free-of3 .before .before .before .before in let a-name = further-names .before .before .before .before in let free-of2 =
+    a-name .before .before in let begin-item = free-of2 .before .before .before .before in let expect = begin-item .before .before in let free-of =
+    expect .before .before in let start = free-of .before .before .before in pair (room-left (left (expect .expect .ensures .1 .0) less (begin-item
+    .begin-item .ensures .1 .0) plus (a-name .a-name .ensures .1 .0) plus (further-names .further-names .ensures .1 .0) plus (expect2 .expect2
+    .ensures .1 .0) less (init .init .ensures .1 .0) plus (optional .optional .ensures .1 .0) plus (set-size .set-size .ensures .1 .0)) refl) (λ src
+    l. (let l₁ = lies-still l (begin-item .begin-item .ensures .1 .0 .kept) in let l₂ = lies-still l₁ (a-name .a-name .ensures .1 .0 .kept) in let l₃
+    = lies-still l₂ (further-names .further-names .ensures .1 .0 .kept) in let l₄ = lies-still l₃ (init .init .ensures .1 .0 .kept) in local-read src
+    _ _ (l .count) (free-of .free-of .ensures .1) (low-past (start .pre .1) (expect .expect .ensures .1 .0)) (freed _ (free-of2 .free-of2 .ensures .1)
+    (begin-item .begin-item .kept .0)) (omega (
+      arith,
+      minus .minus .ensures .1,
+      freed _ (free-of3 .free-of3 .ensures .1) (further-names
+          .further-names .kept .0 ∙ a-name .a-name .kept .0 ∙ begin-item .begin-item .kept .0),
+      freed _ (free-of4 .free-of4 .ensures .1) (further-names
+          .further-names .kept .0 ∙ a-name .a-name .kept .0 ∙ begin-item .begin-item .kept .0),
+    )) (expect .expect .ensures .1 .1 src l) (begin-item
+    .begin-item .ensures .1 .1) (a-name .a-name .ensures .1 .1 src l₁) (further-names .further-names .ensures .1 .1 src l₂) (expect2 .expect2 .ensures
+    .1 .1 src l₃) (λ name names q e. init .init .ensures .1 .1 src l₃ .1 name names q (ap (λ (z : ℕ). freeOf z (expect2 .expect2 .result))
+    (further-names .further-names .kept .0 ∙ a-name .a-name .kept .0 ∙ begin-item .begin-item .kept .0) ∙ e)) (init .init .ensures .1 .1 src l₃ .0)
+    (optional .optional .ensures .1 .1 src l₄) (set-size .set-size .ensures .1 .1))))
 
 abbrev pub init-cs : ℕ → Calls cycle.Lts-init.Claims
 init-cs t = calls-8 kind-here is-vector vector free-of minus (below arg-rank t) (below rest-rank t) node
 
-init-returns : (t : ℕ) → cycle.Lts-init.Need-returns (init-cs t .claims) (at init-rank t) (init-rank .post)
-init-returns t c =
-    let after-vector = c .before .before in let after-if1 = after-vector .before .before in let after-is-vector = after-if1 .before in let
-    after-kind-here = after-is-vector .before in let start = after-kind-here .before .before .before in let v = vector-is
-    (after-kind-here .kind-here .result) (start .args .further) (sym (after-is-vector .is-vector .ensures .1) ∙ after-if1 .if1 .taken) in pair
-    (takes-none (after-vector .vector .ensures .1 .0)) (λ src l. pair (after-vector .vector .ensures .1 .1 src l .0) (λ name names q e. given-vector
-    src _ (after-kind-here .kind-here .ensures .1 src l) name names (omega (arith, q, v .1)) (v .0) (after-vector .vector .ensures .1 .1 src l .1 name
-    (e ∙ ap (λ (z : ℕ). start .args .start + z) (one-name name names (omega (arith, q, v .1)))))))
-
-init-returns-2 : (t : ℕ) → cycle.Lts-init.Need-returns-2 (init-cs t .claims) (at init-rank t) (init-rank .post)
-init-returns-2 t c =
-    let after-node = c .before .before in let after-rest = after-node .before .before .before .before in let after-arg = after-rest .before .before
-    .before .before in let after-minus = after-arg .before .before in let after-free-of = after-minus .before in let after-if1 = after-free-of .before
-    .before in let after-is-vector = after-if1 .before in let after-kind-here = after-is-vector .before in let start = after-kind-here .before .before
-    .before in pair
-    (room-taken (taken (after-arg .arg .ensures .1 .0) plus (after-rest .rest .ensures .1 .0) less (after-node .node .ensures .1 .0)) refl)
-    (λ src l. let l₁ = lies-still l (after-arg .arg .ensures .1 .0 .kept) in pair (goes-on (after-arg .arg .ensures .1 .1 src l) then goes-on
-    (after-rest .rest .ensures .1 .1 src l₁) then adds-on (after-node .node .ensures .1 .1)) (λ name names q e. given-values src _ (after-kind-here
-    .kind-here .ensures .1 src l) name names (λ z. vector-not (after-kind-here .kind-here .result) (start .args .further) (sym (after-is-vector
-    .is-vector .ensures .1) ∙ after-if1 .if1 .left) (omega (arith, q, z))) (values-read src _ _ name names _ q e (measured _ _ (after-minus .minus
-    .ensures .1) (after-free-of .free-of .ensures .1) refl) (after-arg .arg .ensures .1 .1 src l) (after-rest .rest .ensures .1 .1 src l₁) (after-node
-    .node .ensures .1 .1))))
-
 pub init-ok : {M : Type 1} (t : ℕ) → cycle.Lts-init.Closed (init-cs t .claims) (at init-rank t) (init-rank .post) M
 init-ok t =
     cycle.Lts-init.spec (init-cs t .claims) (at init-rank t) (init-rank .post) (λ c κs. omega arith) (λ c κs. tt) (λ c κs. omega arith)
-    (λ c. search needs) (init-returns t) (λ c κs. tt) (λ c κs. tt) (λ c κs. omega arith)
+    (λ c. search needs)
+    (λ c. let vector = c .before .before in let if1 = vector .before .before in let is-vector = if1 .before in let kind-here = is-vector .before in
+    let start = kind-here .before .before .before in let v = vector-is (kind-here .kind-here .result) (start .args .further) (sym (is-vector
+    .is-vector .ensures .1) ∙ if1 .if1 .taken) in pair (takes-none (vector .vector .ensures .1 .0)) (λ src l. pair (vector .vector .ensures .1 .1 src
+    l .0) (λ name names q e. given-vector src _ (kind-here .kind-here .ensures .1 src l) name names (omega (arith, q, v .1)) (v .0) (vector .vector
+    .ensures .1 .1 src l .1 name (e ∙ ap (λ (z : ℕ). start .args .start + z) (one-name name names (omega (arith, q, v .1))))))))
+    (λ c κs. tt) (λ c κs. tt) (λ c κs. omega arith)
     (λ c κs. pair (omega arith) (ready-takes (c .before .before .before .arg .ensures .1 .0) (c .before .before .before .arg .kept .0) (ready-part (c
-    .before .before .before .arg .ensures .0 .1) refl))) (λ c. let arg = c .before .before .before .before .before .before .before in let minus = arg
-    .before .before in let free-of = minus .before in omega (
-      arith,
-      size-small _ (minus .minus .ensures .1) (free-of .free-of .ensures .1) (ready-part
-          (arg .arg .ensures .0 .1) refl),
-    )) (λ c κs. let rest = c .before .before .before in let arg = rest .before .before .before .before in let start =
-    arg .before .before .before .before .before .before .before .before .before .before in ready-leaves (rest .rest .ensures .1 .0) (rest .rest .kept
-    .0) refl (ready-takes (arg .arg .ensures .1 .0) (arg .arg .kept .0) (start .pre .1))) (λ c. search needs) (init-returns-2 t)
+    .before .before .before .arg .ensures .0 .1) refl)))
+    (λ c. let arg = c .before .before .before .before .before .before .before in let minus = arg .before .before in let free-of = minus .before in
+    omega (arith, size-small _ (minus .minus .ensures .1) (free-of .free-of .ensures .1) (ready-part (arg .arg .ensures .0 .1) refl)))
+    (λ c κs. let rest = c .before .before .before in let arg = rest .before .before .before .before in let start = arg .before .before .before .before
+    .before .before .before .before .before .before in ready-leaves (rest .rest .ensures .1 .0) (rest .rest .kept .0) refl (ready-takes (arg .arg
+    .ensures .1 .0) (arg .arg .kept .0) (start .pre .1)))
+    (λ c. search needs)
+    (λ c. let node = c .before .before in let rest = node .before .before .before .before in let arg = rest .before .before .before .before in let
+    minus = arg .before .before in let free-of = minus .before in let if1 = free-of .before .before in let is-vector = if1 .before in let kind-here =
+    is-vector .before in let start = kind-here .before .before .before in pair (room-taken (taken (arg .arg .ensures .1 .0) plus (rest .rest .ensures
+    .1 .0) less (node .node .ensures .1 .0)) refl) (λ src l. let l₁ = lies-still l (arg .arg .ensures .1 .0 .kept) in pair (goes-on (arg .arg .ensures
+    .1 .1 src l) then goes-on (rest .rest .ensures .1 .1 src l₁) then adds-on (node .node .ensures .1 .1)) (λ name names q e. given-values src _
+    (kind-here .kind-here .ensures .1 src l) name names (λ z. vector-not (kind-here .kind-here .result) (start .args .further) (sym (is-vector
+    .is-vector .ensures .1) ∙ if1 .if1 .left) (omega (arith, q, z))) (values-read src _ _ name names _ q e (measured _ _ (minus .minus .ensures .1)
+    (free-of .free-of .ensures .1) refl) (arg .arg .ensures .1 .1 src l) (rest .rest .ensures .1 .1 src l₁) (node .node .ensures .1 .1)))))

@@ -26,51 +26,23 @@ expr-cs t =
     calls-12 (below term-rank t) kind-here (below monad-rank t) (below expr-rank t) free-of binding-of minus place-of right-of (below op-rank t)
     (below run-rank t) node
 
-expr-returns-2 : (t : ℕ) → cycle.Lts-expr.Need-returns-2 (expr-cs t .claims) (at expr-rank t) (expr-rank .post)
-expr-returns-2 t c =
-    let after-monad = c .before .before in let after-if3 = after-monad .before .before in let after-kind-here = after-if3 .before in let after-if2 =
-    after-kind-here .before .before in expression-not _ (after-kind-here .kind-here .ensures .1) _ (after-if2 .if2 .taken) (after-if3 .if3 .taken)
-    (after-monad .monad .ensures .1)
-
-expr-returns-3 : (t : ℕ) → cycle.Lts-expr.Need-returns-3 (expr-cs t .claims) (at expr-rank t) (expr-rank .post)
-expr-returns-3 t c =
-    let after-expr = c .before .before in let after-if3 = after-expr .before .before in let after-kind-here = after-if3 .before in let after-if2 =
-    after-kind-here .before .before in expression-shift _ (after-kind-here .kind-here .ensures .1) _ (after-if2 .if2 .taken) (after-if3 .if3 .left)
-    (after-expr .expr .ensures .1)
-
-expr-returns-4 : (t : ℕ) → cycle.Lts-expr.Need-returns-4 (expr-cs t .claims) (at expr-rank t) (expr-rank .post)
-expr-returns-4 t c =
-    let after-binding-of = c .before in let after-kind-here2 = after-binding-of .before in let after-expr2 = after-kind-here2 .before .before .before
-    .before in let after-if2 = after-expr2 .before .before .before .before in let after-if1 = after-if2 .before in let start = after-if1 .before
-    .before in pair (after-expr2 .expr2 .ensures .1 .0) (λ src l. (let l₁ = lies-still l (after-expr2 .expr2 .ensures .1 .0 .kept) in expression-one
-    l₁ 0 _ _ (after-if1 .if1 .left) (after-if2 .if2 .left) (start .pre .1 .1) (after-kind-here2 .kind-here2 .ensures .1 src l₁) (after-expr2 .expr2
-    .ensures .1 .1 src l) (λ z. c .if4 .taken (after-binding-of .binding-of .ensures .1 ∙ z))))
-
-expr-returns-5 : (t : ℕ) → cycle.Lts-expr.Need-returns-5 (expr-cs t .claims) (at expr-rank t) (expr-rank .post)
-expr-returns-5 t c =
-    let after-node = c .before .before in let after-run = after-node .before .before .before .before in let after-op = after-run .before .before
-    .before .before in let after-right-of = after-op .before .before in let after-place-of = after-right-of .before in let after-minus =
-    after-place-of .before .before in let after-free-of2 = after-minus .before in let after-if4 = after-free-of2 .before .before in let
-    after-binding-of = after-if4 .before in let after-kind-here2 = after-binding-of .before in let after-expr2 = after-kind-here2 .before .before
-    .before .before in let after-free-of = after-expr2 .before .before in let after-if2 = after-free-of .before .before in let after-if1 = after-if2
-    .before in let start = after-if1 .before .before in pair (room-left (left (after-expr2 .expr2 .ensures .1 .0) plus (after-op .op .ensures .1 .0)
-    plus (after-run .run .ensures .1 .0) less (after-node .node .ensures .1 .0)) refl)
-    (λ src l. (let l₁ = lies-still l (after-expr2 .expr2 .ensures .1 .0 .kept) in let l₂ = lies-still l₁ (after-op .op .ensures .1 .0 .kept) in
-    expression-more l₁ _ _ _ (after-if1 .if1 .left) (after-if2 .if2 .left) (start .pre .1 .1) (after-kind-here2 .kind-here2 .ensures .1 src l₁)
-    (after-expr2 .expr2 .ensures .1 .1 src l) (after-right-of .right-of .ensures .1 .0) (sym (after-binding-of .binding-of .ensures .1) ∙ after-if4
-    .if4 .left) (after-free-of .free-of .ensures .1) (measured _ _ (after-minus .minus .ensures .1) (after-free-of2 .free-of2 .ensures .1)
-    (after-expr2 .expr2 .kept .0)) (after-place-of .place-of .ensures .1) (after-op .op .ensures .1 .1 src l₁ (after-kind-here2 .kind-here2 .ensures
-    .1 src l₁)) (after-run .run .ensures .1 .1 src l₂) (after-node .node .ensures .1 .1)))
-
 pub expr-ok : {M : Type 1} (t : ℕ) → cycle.Lts-expr.Closed (expr-cs t .claims) (at expr-rank t) (expr-rank .post) M
 expr-ok t =
     cycle.Lts-expr.spec (expr-cs t .claims) (at expr-rank t) (expr-rank .post) (λ c κs. omega arith) (λ c. search needs)
     (λ c. expression-none _ _ (c .before .before .before .before .if1 .taken) (c .before .before .term .ensures .1)) (λ c κs. omega arith)
     (λ c κs. (omega arith, (c .before .before .before .before .before .before .before .pre .1 .0, omega arith))) (λ c. search needs)
-    (expr-returns-2 t) (λ c. omega arith) (λ c κs. omega arith) (λ c. search needs) (expr-returns-3 t) (λ c κs. tt) (λ c. omega arith)
-    (λ c κs. omega arith) (λ c κs. let e = c .before .before .before .expr2 in past-expression refl (e .ensures) (e .kept .0)) (λ c κs. tt)
-    (λ c. search needs) (expr-returns-4 t) (λ c κs. tt) (λ c κs. tt)
-    (λ c κs. c .before .before .before .before .before .before .kind-here2 .ensures .0) (λ c κs. omega arith)
+    (λ c. let monad = c .before .before in let if3 = monad .before .before in let kind-here = if3 .before in let if2 = kind-here .before .before in
+    expression-not _ (kind-here .kind-here .ensures .1) _ (if2 .if2 .taken) (if3 .if3 .taken) (monad .monad .ensures .1))
+    (λ c. omega arith) (λ c κs. omega arith) (λ c. search needs)
+    (λ c. let expr = c .before .before in let if3 = expr .before .before in let kind-here = if3 .before in let if2 = kind-here .before .before in
+    expression-shift _ (kind-here .kind-here .ensures .1) _ (if2 .if2 .taken) (if3 .if3 .left) (expr .expr .ensures .1))
+    (λ c κs. tt) (λ c. omega arith) (λ c κs. omega arith)
+    (λ c κs. let e = c .before .before .before .expr2 in past-expression refl (e .ensures) (e .kept .0)) (λ c κs. tt) (λ c. search needs)
+    (λ c. let binding-of = c .before in let kind-here2 = binding-of .before in let expr2 = kind-here2 .before .before .before .before in let if2 =
+    expr2 .before .before .before .before in let if1 = if2 .before in let start = if1 .before .before in pair (expr2 .expr2 .ensures .1 .0) (λ src l.
+    (let l₁ = lies-still l (expr2 .expr2 .ensures .1 .0 .kept) in expression-one l₁ 0 _ _ (if1 .if1 .left) (if2 .if2 .left) (start .pre .1 .1)
+    (kind-here2 .kind-here2 .ensures .1 src l₁) (expr2 .expr2 .ensures .1 .1 src l) (λ z. c .if4 .taken (binding-of .binding-of .ensures .1 ∙ z)))))
+    (λ c κs. tt) (λ c κs. tt) (λ c κs. c .before .before .before .before .before .before .kind-here2 .ensures .0) (λ c κs. omega arith)
     (λ c κs. let place-of = c .before .before in let if4 = place-of .before .before .before .before .before in let binding-of = if4 .before in let if1
     = binding-of .before .before .before .before .before .before .before .before .before .before in pair (omega arith) (triple (place-of .place-of
     .ensures .0) (omega arith) (binding-positive _ (omega (arith, binding-of .binding-of .ensures .1, if4 .if4 .left, if1 .if1 .left)))))
@@ -85,34 +57,43 @@ expr-ok t =
       arith,
       size-small _ (minus .minus .ensures .1) (free-of2 .free-of2 .ensures .1) (place-of .place-of
           .ensures .0),
-    )) (λ c κs. ready-leaves (c .before .before .before .run .ensures .1 .0) (c .before .before .before .run .kept .0) refl (ready-leaves
-    (c .before .before .before .before .before .before .before .op .ensures .1 .0) (c .before .before .before .before .before .before .before .op
-    .kept .0) refl (c .before .before .before .before .before .before .before .op .ensures .0 .1 .0)))
+    ))
+    (λ c κs. ready-leaves (c .before .before .before .run .ensures .1 .0) (c .before .before .before .run .kept .0) refl (ready-leaves (c .before
+    .before .before .before .before .before .before .op .ensures .1 .0) (c .before .before .before .before .before .before .before .op .kept .0) refl
+    (c .before .before .before .before .before .before .before .op .ensures .0 .1 .0)))
     (λ c. let node = c .before .before in let run = node .before .before .before .before in let op = run .before .before .before .before in let expr2
     = op .before .before .before .before .before .before .before .before .before .before .before .before .before .before in node .node .kept .0 ∙ run
-    .run .kept .0 ∙ op .op .kept .0 ∙ expr2 .expr2 .kept .0) (expr-returns-5 t)
+    .run .kept .0 ∙ op .op .kept .0 ∙ expr2 .expr2 .kept .0)
+    (λ c. let node = c .before .before in let run = node .before .before .before .before in let op = run .before .before .before .before in let
+    right-of = op .before .before in let place-of = right-of .before in let minus = place-of .before .before in let free-of2 = minus .before in let
+    if4 = free-of2 .before .before in let binding-of = if4 .before in let kind-here2 = binding-of .before in let expr2 = kind-here2 .before .before
+    .before .before in let free-of = expr2 .before .before in let if2 = free-of .before .before in let if1 = if2 .before in let start = if1 .before
+    .before in pair (room-left (left (expr2 .expr2 .ensures .1 .0) plus (op .op .ensures .1 .0) plus (run .run .ensures .1 .0) less (node .node
+    .ensures .1 .0)) refl) (λ src l. (let l₁ = lies-still l (expr2 .expr2 .ensures .1 .0 .kept) in let l₂ = lies-still l₁ (op .op .ensures .1 .0
+    .kept) in expression-more l₁ _ _ _ (if1 .if1 .left) (if2 .if2 .left) (start .pre .1 .1) (kind-here2 .kind-here2 .ensures .1 src l₁) (expr2 .expr2
+    .ensures .1 .1 src l) (right-of .right-of .ensures .1 .0) (sym (binding-of .binding-of .ensures .1) ∙ if4 .if4 .left) (free-of .free-of .ensures
+    .1) (measured _ _ (minus .minus .ensures .1) (free-of2 .free-of2 .ensures .1) (expr2 .expr2 .kept .0)) (place-of .place-of .ensures .1) (op .op
+    .ensures .1 .1 src l₁ (kind-here2 .kind-here2 .ensures .1 src l₁)) (run .run .ensures .1 .1 src l₂) (node .node .ensures .1 .1))))
 
 abbrev pub op-cs : ℕ → Calls cycle.Lts-op.Claims
 op-cs t = calls-5 free-of expect begin-item (below expr-rank t) set-size
 
-op-returns : (t : ℕ) → cycle.Lts-op.Need-returns (op-cs t .claims) (at op-rank t) (op-rank .post)
-op-returns t c =
-    let after-set-size = c .before .before in let after-expr = after-set-size .before .before .before .before in let after-begin-item = after-expr
-    .before .before .before .before in let after-expect = after-begin-item .before .before in let after-free-of = after-expect .before .before in let
-    start = after-free-of .before .before .before in pair (room-left (left (after-expect .expect .ensures .1 .0) less (after-begin-item .begin-item
-    .ensures .1 .0) plus (after-expr .expr .ensures .1 .0) plus (after-set-size .set-size .ensures .1 .0)) refl)
-    (λ src l k. operation-read src _ _ (after-free-of .free-of .ensures .1) _ (low-past (start .pre .1 .0) (after-expect .expect .ensures .1 .0)) k
-    (after-expect .expect .ensures .1 .1 src l) (after-begin-item .begin-item .ensures .1 .1) (after-expr .expr .ensures .1 .1 src (lies-still l
-    (after-begin-item .begin-item .ensures .1 .0 .kept))) (after-set-size .set-size .ensures .1 .1))
-
 pub op-ok : {M : Type 1} (t : ℕ) → cycle.Lts-op.Closed (op-cs t .claims) (at op-rank t) (op-rank .post) M
 op-ok t =
     cycle.Lts-op.spec (op-cs t .claims) (at op-rank t) (op-rank .post) (λ c κs. tt) (λ c κs. omega arith)
-    (λ c κs. past-symbol refl (c .before .expect .ensures)) (λ c κs. pair (omega arith) (pair (ready-takes (c .before .before .before .begin-item
-    .ensures .1 .0) (c .before .before .before .begin-item .kept .0) (c .before .before .before .begin-item .ensures .0)) (omega arith)))
+    (λ c κs. past-symbol refl (c .before .expect .ensures))
+    (λ c κs. pair (omega arith) (pair (ready-takes (c .before .before .before .begin-item .ensures .1 .0) (c .before .before .before .begin-item .kept
+    .0) (c .before .before .before .begin-item .ensures .0)) (omega arith)))
     (λ c κs. let expr = c .before .before .before in let expect = expr .before .before .before .before .before .before in let free-of = expect .before
     .before in pair (past-expression refl (expr .expr .ensures) (expr .expr .kept .0)) (item-low (free-of .free-of .ensures .1) (expect .expect
-    .ensures .0 .0))) (λ c. search needs) (op-returns t)
+    .ensures .0 .0)))
+    (λ c. search needs)
+    (λ c. let set-size = c .before .before in let expr = set-size .before .before .before .before in let begin-item = expr .before .before .before
+    .before in let expect = begin-item .before .before in let free-of = expect .before .before in let start = free-of .before .before .before in pair
+    (room-left (left (expect .expect .ensures .1 .0) less (begin-item .begin-item .ensures .1 .0) plus (expr .expr .ensures .1 .0) plus (set-size
+    .set-size .ensures .1 .0)) refl) (λ src l k. operation-read src _ _ (free-of .free-of .ensures .1) _ (low-past (start .pre .1 .0) (expect .expect
+    .ensures .1 .0)) k (expect .expect .ensures .1 .1 src l) (begin-item .begin-item .ensures .1 .1) (expr .expr .ensures .1 .1 src (lies-still l
+    (begin-item .begin-item .ensures .1 .0 .kept))) (set-size .set-size .ensures .1 .1)))
 
 abbrev pub run-cs : ℕ → Calls cycle.Lts-run.Claims
 run-cs t = calls-4 further-most kind-here binding-of (below op-rank t)
@@ -126,69 +107,48 @@ run-inv s₀ n levels binding right turns₀ a₀ s turns a =
 abbrev run-turns : cycle.Lts-run.MeasureT-loop
 run-turns s₀ n levels binding right turns₀ a₀ s turns a = turns
 
-run-returns : (t : ℕ) → cycle.Lts-run.Need-returns (run-cs t .claims) (at run-rank t) (run-rank .post) run-inv run-turns
-run-returns t c =
-    let after-binding-of = c .before in let after-kind-here = after-binding-of .before in let in-loop = after-kind-here .before .before .before in let
-    after-further-most = in-loop .before in many-ends _ _ _ _ before-last (wordless no-operation-words) (after-further-most .further-most .ensures .1)
-    (in-loop .loop .inv) (after-kind-here .kind-here .ensures .1) (ne-eqb _ _ (λ z. c .if1 .taken (after-binding-of .binding-of .ensures .1 ∙ z)))
-
-run-loop-again : (t : ℕ) → cycle.Lts-run.Need-loop-again (run-cs t .claims) (at run-rank t) (run-rank .post) run-inv run-turns
-run-loop-again t c =
-    let after-op = c .before .before in let after-if1 = after-op .before .before in let after-binding-of = after-if1 .before in let after-kind-here =
-    after-binding-of .before in let in-loop = after-kind-here .before .before .before in many-turns _ _ _ _ before-next (in-loop .loop .inv)
-    (after-kind-here .kind-here .ensures .1) (eq-eqb _ _ (sym (after-binding-of .binding-of .ensures .1) ∙ after-if1 .if1 .left))
-    (after-op .op .ensures .1) (after-op .op .kept .0) (omega arith)
-
 pub run-ok : {M : Type 1} (t : ℕ) → cycle.Lts-run.Closed (run-cs t .claims) (at run-rank t) (run-rank .post) M
 run-ok t =
     cycle.Lts-run.spec (run-cs t .claims) (at run-rank t) (run-rank .post) run-inv run-turns (λ c κs. tt)
     (λ c. so-begins (c .before .before .pre .1 .0) before-first)
     (λ c κs. ready-leaves (c .before .before .loop .inv .room) (c .before .before .loop .inv .same) refl (c .before .before .before .before .before
-    .pre .1 .0)) (λ c κs. tt) (λ c. search needs) (run-returns t)
+    .pre .1 .0))
+    (λ c κs. tt) (λ c. search needs)
+    (λ c. let binding-of = c .before in let kind-here = binding-of .before in let in-loop = kind-here .before .before .before in let further-most =
+    in-loop .before in many-ends _ _ _ _ before-last (wordless no-operation-words) (further-most .further-most .ensures .1) (in-loop .loop .inv)
+    (kind-here .kind-here .ensures .1) (ne-eqb _ _ (λ z. c .if1 .taken (binding-of .binding-of .ensures .1 ∙ z))))
     (λ c κs. let if1 = c .before in let binding-of = if1 .before in let kind-here = binding-of .before in let start = kind-here .before .before
     .before .before .before .before in pair (omega arith) (triple (kind-here .kind-here .ensures .0) (omega arith) (binding-positive _ (omega (
       arith,
       binding-of .binding-of .ensures .1,
       if1 .if1 .left,
       start .pre .1,
-    ))))) (λ c. omega arith) (λ c. omega arith) (run-loop-again t)
-    (λ c. search needs) (λ c. many-spent _ _ _ _ before-last (wordless no-operation-words) (c .before .before .further-most .ensures .1) (c .before
-    .loop .inv) (omega arith))
+    )))))
+    (λ c. omega arith) (λ c. omega arith)
+    (λ c. let op = c .before .before in let if1 = op .before .before in let binding-of = if1 .before in let kind-here = binding-of .before in let
+    in-loop = kind-here .before .before .before in many-turns _ _ _ _ before-next (in-loop .loop .inv) (kind-here .kind-here .ensures .1) (eq-eqb _ _
+    (sym (binding-of .binding-of .ensures .1) ∙ if1 .if1 .left)) (op .op .ensures .1) (op .op .kept .0) (omega arith))
+    (λ c. search needs)
+    (λ c. many-spent _ _ _ _ before-last (wordless no-operation-words) (c .before .before .further-most .ensures .1) (c .before .loop .inv) (omega
+    arith))
 
 abbrev pub term-cs : ℕ → Calls cycle.Lts-term.Claims
 term-cs t = calls-4 kind-here is-monadic (below monad-rank t) (below whole-rank t)
-
-term-returns : (t : ℕ) → cycle.Lts-term.Need-returns (term-cs t .claims) (at term-rank t) (term-rank .post)
-term-returns t c =
-    let after-monad = c .before .before in let after-if1 = after-monad .before .before in let after-is-monadic = after-if1 .before in let
-    after-kind-here = after-is-monadic .before in operand-monadic _ (after-kind-here .kind-here .ensures .1)
-    (after-is-monadic .is-monadic .ensures .1) (after-if1 .if1 .taken) (after-monad .monad .ensures .1)
-
-term-returns-2 : (t : ℕ) → cycle.Lts-term.Need-returns-2 (term-cs t .claims) (at term-rank t) (term-rank .post)
-term-returns-2 t c =
-    let after-whole = c .before .before in let after-if1 = after-whole .before .before in let after-is-monadic = after-if1 .before in let
-    after-kind-here = after-is-monadic .before in operand-suffixed _ (after-kind-here .kind-here .ensures .1)
-    (after-is-monadic .is-monadic .ensures .1) (after-if1 .if1 .left) (after-whole .whole .ensures .1)
 
 pub term-ok : {M : Type 1} (t : ℕ) → cycle.Lts-term.Closed (term-cs t .claims) (at term-rank t) (term-rank .post) M
 term-ok t =
     cycle.Lts-term.spec (term-cs t .claims) (at term-rank t) (term-rank .post) (λ c κs. omega arith) (λ c κs. tt)
     (λ c κs. let if1 = c .before in let is-monadic = if1 .before in let start = is-monadic .before .before .before .before in pair (omega arith) (pair
-    (start .pre .1) (monadic-positive _ (is-monadic .is-monadic .ensures .1) (if1 .if1 .taken)))) (λ c κs. omega arith) (λ c. search needs)
-    (term-returns t) (λ c. search needs) (term-returns-2 t)
+    (start .pre .1) (monadic-positive _ (is-monadic .is-monadic .ensures .1) (if1 .if1 .taken))))
+    (λ c κs. omega arith) (λ c. search needs)
+    (λ c. let monad = c .before .before in let if1 = monad .before .before in let is-monadic = if1 .before in let kind-here = is-monadic .before in
+    operand-monadic _ (kind-here .kind-here .ensures .1) (is-monadic .is-monadic .ensures .1) (if1 .if1 .taken) (monad .monad .ensures .1))
+    (λ c. search needs)
+    (λ c. let whole = c .before .before in let if1 = whole .before .before in let is-monadic = if1 .before in let kind-here = is-monadic .before in
+    operand-suffixed _ (kind-here .kind-here .ensures .1) (is-monadic .is-monadic .ensures .1) (if1 .if1 .left) (whole .whole .ensures .1))
 
 abbrev pub monad-cs : ℕ → Calls cycle.Lts-monad.Claims
 monad-cs t = calls-7 refuse free-of place-here expect reach-of (below expr-rank t) node
-
-monad-returns-2 : (t : ℕ) → cycle.Lts-monad.Need-returns-2 (monad-cs t .claims) (at monad-rank t) (monad-rank .post)
-monad-returns-2 t c =
-    let after-node = c .before .before in let after-expr = after-node .before .before .before .before in let after-reach-of = after-expr .before in
-    let after-expect = after-reach-of .before .before in let after-place-here = after-expect .before .before in let after-free-of = after-place-here
-    .before .before in let after-if1 = after-free-of .before .before in let start = after-if1 .before .before in pair
-    (room-left (left (after-expect .expect .ensures .1 .0) plus (after-expr .expr .ensures .1 .0) less (after-node .node .ensures .1 .0)) refl)
-    (λ src l k. monadic-read l _ _ (after-free-of .free-of .ensures .1) (after-place-here .place-here .ensures .1 src l) (after-if1 .if1 .left) k
-    (start .pre .1 .1) (after-reach-of .reach-of .ensures .1 .0) (after-expect .expect .ensures .1 .1 src l) (after-expr .expr .ensures .1 .1 src l)
-    (after-node .node .ensures .1 .1))
 
 pub monad-ok : {M : Type 1} (t : ℕ) → cycle.Lts-monad.Closed (monad-cs t .claims) (at monad-rank t) (monad-rank .post) M
 monad-ok t =
@@ -196,4 +156,10 @@ monad-ok t =
     (λ c. monadic-shut _ (c .before .before .if1 .taken) (c .refuse .ensures .1)) (λ c κs. tt) (λ c κs. omega arith) (λ c κs. omega arith)
     (λ c. omega arith) (λ c κs. tt) (λ c κs. pair (omega arith) (pair (past-symbol refl (c .before .before .expect .ensures)) (omega arith)))
     (λ c κs. ready-leaves (c .before .before .before .expr .ensures .1 .0) (c .before .before .before .expr .kept .0) refl (past-symbol refl (c
-    .before .before .before .before .before .before .expect .ensures))) (λ c. search needs) (monad-returns-2 t)
+    .before .before .before .before .before .before .expect .ensures)))
+    (λ c. search needs)
+    (λ c. let node = c .before .before in let expr = node .before .before .before .before in let reach-of = expr .before in let expect = reach-of
+    .before .before in let place-here = expect .before .before in let free-of = place-here .before .before in let if1 = free-of .before .before in let
+    start = if1 .before .before in pair (room-left (left (expect .expect .ensures .1 .0) plus (expr .expr .ensures .1 .0) less (node .node .ensures .1
+    .0)) refl) (λ src l k. monadic-read l _ _ (free-of .free-of .ensures .1) (place-here .place-here .ensures .1 src l) (if1 .if1 .left) k (start .pre
+    .1 .1) (reach-of .reach-of .ensures .1 .0) (expect .expect .ensures .1 .1 src l) (expr .expr .ensures .1 .1 src l) (node .node .ensures .1 .1)))

@@ -29,105 +29,68 @@ use cycle.Proof.Ranks.{place-here, plain-rank, redo-rank, refuse, rest-rank, set
 abbrev pub cmd-cs : ℕ → Calls cycle.Lts-cmd.Claims
 cmd-cs t = calls-4 kind-here is-label (below cases-rank t) (below body-rank t)
 
-cmd-returns : (t : ℕ) → cycle.Lts-cmd.Need-returns (cmd-cs t .claims) (at cmd-rank t) (cmd-rank .post)
-cmd-returns t c =
-    let after-cases = c .before .before in let after-if1 = after-cases .before .before in let after-is-label = after-if1 .before in let
-    after-kind-here = after-is-label .before in pair (after-cases .cases .ensures .1 .0)
-    (λ src l. after-cases .cases .ensures .1 .1 src l (after-kind-here .kind-here .ensures .1 src l) (sym (after-is-label .is-label .ensures .1) ∙
-    after-if1 .if1 .taken))
-
-cmd-returns-2 : (t : ℕ) → cycle.Lts-cmd.Need-returns-2 (cmd-cs t .claims) (at cmd-rank t) (cmd-rank .post)
-cmd-returns-2 t c =
-    let after-body = c .before .before in let after-if1 = after-body .before .before in let after-is-label = after-if1 .before in let after-kind-here
-    = after-is-label .before in command-plain _ (after-kind-here .kind-here .ensures .1) (after-is-label .is-label .ensures .1) (after-if1 .if1 .left)
-    (after-body .body .ensures .1)
-
 pub cmd-ok : {M : Type 1} (t : ℕ) → cycle.Lts-cmd.Closed (cmd-cs t .claims) (at cmd-rank t) (cmd-rank .post) M
 cmd-ok t =
     cycle.Lts-cmd.spec (cmd-cs t .claims) (at cmd-rank t) (cmd-rank .post) (λ c κs. omega arith) (λ c κs. tt) (λ c κs. omega arith)
-    (λ c. search needs) (cmd-returns t) (λ c κs. omega arith) (λ c. search needs) (cmd-returns-2 t)
+    (λ c. search needs)
+    (λ c. let cases = c .before .before in let if1 = cases .before .before in let is-label = if1 .before in let kind-here = is-label .before in pair
+    (cases .cases .ensures .1 .0) (λ src l. cases .cases .ensures .1 .1 src l (kind-here .kind-here .ensures .1 src l) (sym (is-label .is-label
+    .ensures .1) ∙ if1 .if1 .taken)))
+    (λ c κs. omega arith) (λ c. search needs)
+    (λ c. let body = c .before .before in let if1 = body .before .before in let is-label = if1 .before in let kind-here = is-label .before in
+    command-plain _ (kind-here .kind-here .ensures .1) (is-label .is-label .ensures .1) (if1 .if1 .left) (body .body .ensures .1))
 
 abbrev pub cases-cs : ℕ → Calls cycle.Lts-cases.Claims
 cases-cs t = calls-6 free-of label labels minus (below body-rank t) node
-
-cases-returns : (t : ℕ) → cycle.Lts-cases.Need-returns (cases-cs t .claims) (at cases-rank t) (cases-rank .post)
-cases-returns t c =
-    let after-node = c .before .before in let after-body = after-node .before .before .before .before in let after-minus = after-body .before .before
-    in let after-free-of2 = after-minus .before in let after-labels = after-free-of2 .before .before .before .before in let after-label = after-labels
-    .before .before .before .before in let after-free-of = after-label .before .before in pair
-    (room-left (left (after-label .label .ensures .1 .0) plus (after-labels .labels .ensures .1 .0) plus (after-body .body .ensures .1 .0) less
-    (after-node .node .ensures .1 .0)) refl) (λ src l k q. (let l₁ = lies-still l (after-label .label .ensures .1 .0 .kept) in let l₂ = lies-still l₁
-    (after-labels .labels .ensures .1 .0 .kept) in labelled-read l _ _ k q (after-free-of .free-of .ensures .1) (measured _ _ (after-minus .minus
-    .ensures .1) (after-free-of2 .free-of2 .ensures .1) (after-labels .labels .kept .0 ∙ after-label .label .kept .0)) (after-label .label .ensures .1
-    .1 src l k) (after-labels .labels .ensures .1 .1 src l₁) (after-body .body .ensures .1 .1 src l₂) (after-node .node .ensures .1 .1)))
 
 pub cases-ok : {M : Type 1} (t : ℕ) → cycle.Lts-cases.Closed (cases-cs t .claims) (at cases-rank t) (cases-rank .post) M
 cases-ok t =
     cycle.Lts-cases.spec (cases-cs t .claims) (at cases-rank t) (cases-rank .post) (λ c κs. tt) (λ c κs. omega arith)
     (λ c κs. let e = c .before .before .before .label in ready-leaves (e .ensures .1 .0) (e .kept .0) refl (e .ensures .0)) (λ c κs. tt) (λ c κs. tt)
     (λ c κs. let e = c .before .before .before .before .before .before .labels in pair (omega arith) (ready-leaves (e .ensures .1 .0) (e .kept .0)
-    refl (e .ensures .0))) (λ c. let body = c .before .before .before in let minus = body .before .before in let free-of2 = minus .before in omega
-    (arith, size-small _ (minus .minus .ensures .1) (free-of2 .free-of2 .ensures .1) (body .body .ensures .0 .1)))
+    refl (e .ensures .0)))
+    (λ c. let body = c .before .before .before in let minus = body .before .before in let free-of2 = minus .before in omega (
+      arith,
+      size-small _
+          (minus .minus .ensures .1) (free-of2 .free-of2 .ensures .1) (body .body .ensures .0 .1),
+    ))
     (λ c κs. let body = c .before .before .before in let labels = body .before .before .before .before .before .before .before in let label = labels
     .before .before .before .before in ready-leaves (body .body .ensures .1 .0) (body .body .kept .0) refl (ready-leaves (labels .labels .ensures .1
     .0) (labels .labels .kept .0) refl (ready-leaves (label .label .ensures .1 .0) (label .label .kept .0) refl (label .label .ensures .0))))
-    (λ c. search needs) (cases-returns t)
+    (λ c. search needs)
+    (λ c. let node = c .before .before in let body = node .before .before .before .before in let minus = body .before .before in let free-of2 = minus
+    .before in let labels = free-of2 .before .before .before .before in let label = labels .before .before .before .before in let free-of = label
+    .before .before in pair (room-left (left (label .label .ensures .1 .0) plus (labels .labels .ensures .1 .0) plus (body .body .ensures .1 .0) less
+    (node .node .ensures .1 .0)) refl) (λ src l k q. (let l₁ = lies-still l (label .label .ensures .1 .0 .kept) in let l₂ = lies-still l₁ (labels
+    .labels .ensures .1 .0 .kept) in labelled-read l _ _ k q (free-of .free-of .ensures .1) (measured _ _ (minus .minus .ensures .1) (free-of2
+    .free-of2 .ensures .1) (labels .labels .kept .0 ∙ label .label .kept .0)) (label .label .ensures .1 .1 src l k) (labels .labels .ensures .1 .1 src
+    l₁) (body .body .ensures .1 .1 src l₂) (node .node .ensures .1 .1))))
 
 abbrev pub body-cs : ℕ → Calls cycle.Lts-body.Claims
 body-cs t = calls-4 kind-here begins-command refuse (below redo-rank t)
 
-body-returns : (t : ℕ) → cycle.Lts-body.Need-returns (body-cs t .claims) (at body-rank t) (body-rank .post)
-body-returns t c =
-    let after-if2 = c .before .before in let after-if1 = after-if2 .before in let after-begins-command = after-if1 .before in let after-kind-here =
-    after-begins-command .before in body-shut _ _ (after-kind-here .kind-here .ensures .1) (after-begins-command .begins-command .ensures .1)
-    (after-if1 .if1 .taken) (after-if2 .if2 .taken) (c .refuse .ensures .1)
-
-body-returns-2 : (t : ℕ) → cycle.Lts-body.Need-returns-2 (body-cs t .claims) (at body-rank t) (body-rank .post)
-body-returns-2 t c =
-    let after-redo = c .before .before in let after-if2 = after-redo .before .before in let after-if1 = after-if2 .before in let after-begins-command
-    = after-if1 .before in let after-kind-here = after-begins-command .before in body-open _ _ (after-kind-here .kind-here .ensures .1)
-    (after-begins-command .begins-command .ensures .1) (after-if1 .if1 .taken) (after-if2 .if2 .left) (after-redo .redo .ensures .1)
-
-body-returns-3 : (t : ℕ) → cycle.Lts-body.Need-returns-3 (body-cs t .claims) (at body-rank t) (body-rank .post)
-body-returns-3 t c =
-    let after-if1 = c .before in let after-begins-command = after-if1 .before in let after-kind-here = after-begins-command .before in let start =
-    after-kind-here .before .before .before in body-empty _ _ (after-kind-here .kind-here .ensures .1)
-    (after-begins-command .begins-command .ensures .1) (after-if1 .if1 .left) (start .pre .1) (c .if3 .taken)
-
-body-returns-4 : (t : ℕ) → cycle.Lts-body.Need-returns-4 (body-cs t .claims) (at body-rank t) (body-rank .post)
-body-returns-4 t c =
-    let after-if3 = c .before .before in let after-if1 = after-if3 .before in let after-begins-command = after-if1 .before in let after-kind-here =
-    after-begins-command .before in body-none _ _ (after-kind-here .kind-here .ensures .1) (after-begins-command .begins-command .ensures .1)
-    (after-if1 .if1 .left) (after-if3 .if3 .left) (c .refuse2 .ensures .1)
-
 pub body-ok : {M : Type 1} (t : ℕ) → cycle.Lts-body.Closed (body-cs t .claims) (at body-rank t) (body-rank .post) M
 body-ok t =
     cycle.Lts-body.spec (body-cs t .claims) (at body-rank t) (body-rank .post) (λ c κs. omega arith) (λ c κs. tt) (λ c κs. omega arith)
-    (λ c. search needs) (body-returns t) (λ c. omega arith) (λ c κs. omega arith) (λ c. search needs) (body-returns-2 t) (λ c. search needs)
-    (body-returns-3 t) (λ c κs. omega arith) (λ c. search needs) (body-returns-4 t)
+    (λ c. search needs)
+    (λ c. let if2 = c .before .before in let if1 = if2 .before in let begins-command = if1 .before in let kind-here = begins-command .before in
+    body-shut _ _ (kind-here .kind-here .ensures .1) (begins-command .begins-command .ensures .1) (if1 .if1 .taken) (if2 .if2 .taken) (c .refuse
+    .ensures .1))
+    (λ c. omega arith) (λ c κs. omega arith) (λ c. search needs)
+    (λ c. let redo = c .before .before in let if2 = redo .before .before in let if1 = if2 .before in let begins-command = if1 .before in let kind-here
+    = begins-command .before in body-open _ _ (kind-here .kind-here .ensures .1) (begins-command .begins-command .ensures .1) (if1 .if1 .taken) (if2
+    .if2 .left) (redo .redo .ensures .1))
+    (λ c. search needs)
+    (λ c. let if1 = c .before in let begins-command = if1 .before in let kind-here = begins-command .before in let start = kind-here .before .before
+    .before in body-empty _ _ (kind-here .kind-here .ensures .1) (begins-command .begins-command .ensures .1) (if1 .if1 .left) (start .pre .1) (c .if3
+    .taken))
+    (λ c κs. omega arith) (λ c. search needs)
+    (λ c. let if3 = c .before .before in let if1 = if3 .before in let begins-command = if1 .before in let kind-here = begins-command .before in
+    body-none _ _ (kind-here .kind-here .ensures .1) (begins-command .begins-command .ensures .1) (if1 .if1 .left) (if3 .if3 .left) (c .refuse2
+    .ensures .1))
 
 abbrev pub redo-cs : ℕ → Calls cycle.Lts-redo.Claims
 redo-cs t = calls-8 free-of (below plain-rank t) kind-here is-repeat minus (below form-rank t) (below forms-rank t) node
-
-redo-returns : (t : ℕ) → cycle.Lts-redo.Need-returns (redo-cs t .claims) (at redo-rank t) (redo-rank .post)
-redo-returns t c =
-    let after-node = c .before .before in let after-forms = after-node .before .before .before .before in let after-form = after-forms .before .before
-    .before .before in let after-minus = after-form .before .before in let after-free-of2 = after-minus .before in let after-if1 = after-free-of2
-    .before .before in let after-is-repeat = after-if1 .before in let after-kind-here = after-is-repeat .before in let after-plain = after-kind-here
-    .before .before .before .before in let after-free-of = after-plain .before .before in pair
-    (room-left (left (after-plain .plain .ensures .1 .0) plus (after-form .form .ensures .1 .0) plus (after-forms .forms .ensures .1 .0) less
-    (after-node .node .ensures .1 .0)) refl) (λ src l. (let l₁ = lies-still l (after-plain .plain .ensures .1 .0 .kept) in let l₂ = lies-still l₁
-    (after-form .form .ensures .1 .0 .kept) in repeated-more l₁ _ _ (after-kind-here .kind-here .ensures .1 src l₁) (after-plain .plain .ensures .1 .1
-    src l) (sym (after-is-repeat .is-repeat .ensures .1) ∙ after-if1 .if1 .taken) (after-free-of .free-of .ensures .1) (measured _ _ (after-minus
-    .minus .ensures .1) (after-free-of2 .free-of2 .ensures .1) (after-plain .plain .kept .0)) (after-form .form .ensures .1 .1 src l₁ (after-kind-here
-    .kind-here .ensures .1 src l₁)) (after-forms .forms .ensures .1 .1 src l₂) (after-node .node .ensures .1 .1)))
-
-redo-returns-2 : (t : ℕ) → cycle.Lts-redo.Need-returns-2 (redo-cs t .claims) (at redo-rank t) (redo-rank .post)
-redo-returns-2 t c =
-    let after-is-repeat = c .before in let after-kind-here = after-is-repeat .before in let after-plain = after-kind-here .before .before .before
-    .before in pair (leaves-less (after-plain .plain .ensures .1 .0) refl)
-    (λ src l. (let l₁ = lies-still l (after-plain .plain .ensures .1 .0 .kept) in repeated-one l₁ 0 _ (after-kind-here .kind-here .ensures .1 src l₁)
-    (after-plain .plain .ensures .1 .1 src l) (sym (after-is-repeat .is-repeat .ensures .1) ∙ c .if1 .left)))
 
 pub redo-ok : {M : Type 1} (t : ℕ) → cycle.Lts-redo.Closed (redo-cs t .claims) (at redo-rank t) (redo-rank .post) M
 redo-ok t =
@@ -141,12 +104,26 @@ redo-ok t =
       c .before .before .before .before .before .before .before .before .before .before .before .before .before .before
           .before .before .before .before .before .pre .0,
     )) (past-expression refl (c .before .before .before .form .ensures) (c .before .before .before
-    .form .kept .0))) (λ c. let form = c .before .before .before .before .before .before .before in let minus = form .before .before in let free-of2 =
-    minus .before in omega (arith, size-small _ (minus .minus .ensures .1) (free-of2 .free-of2 .ensures .1) (form .form .ensures .0 .1 .0)))
+    .form .kept .0)))
+    (λ c. let form = c .before .before .before .before .before .before .before in let minus = form .before .before in let free-of2 = minus .before in
+    omega (arith, size-small _ (minus .minus .ensures .1) (free-of2 .free-of2 .ensures .1) (form .form .ensures .0 .1 .0)))
     (λ c κs. let forms = c .before .before .before in let form = forms .before .before .before .before in let plain = form .before .before .before
     .before .before .before .before .before .before .before .before in ready-leaves (forms .forms .ensures .1 .0) (forms .forms .kept .0) refl
     (ready-leaves (form .form .ensures .1 .0) (form .form .kept .0) refl (ready-leaves (plain .plain .ensures .1 .0) (plain .plain .kept .0) refl
-    (plain .plain .ensures .0 .1)))) (λ c. search needs) (redo-returns t) (λ c. search needs) (redo-returns-2 t)
+    (plain .plain .ensures .0 .1))))
+    (λ c. search needs)
+    (λ c. let node = c .before .before in let forms = node .before .before .before .before in let form = forms .before .before .before .before in let
+    minus = form .before .before in let free-of2 = minus .before in let if1 = free-of2 .before .before in let is-repeat = if1 .before in let kind-here
+    = is-repeat .before in let plain = kind-here .before .before .before .before in let free-of = plain .before .before in pair (room-left (left
+    (plain .plain .ensures .1 .0) plus (form .form .ensures .1 .0) plus (forms .forms .ensures .1 .0) less (node .node .ensures .1 .0)) refl) (λ src
+    l. (let l₁ = lies-still l (plain .plain .ensures .1 .0 .kept) in let l₂ = lies-still l₁ (form .form .ensures .1 .0 .kept) in repeated-more l₁ _ _
+    (kind-here .kind-here .ensures .1 src l₁) (plain .plain .ensures .1 .1 src l) (sym (is-repeat .is-repeat .ensures .1) ∙ if1 .if1 .taken) (free-of
+    .free-of .ensures .1) (measured _ _ (minus .minus .ensures .1) (free-of2 .free-of2 .ensures .1) (plain .plain .kept .0)) (form .form .ensures .1
+    .1 src l₁ (kind-here .kind-here .ensures .1 src l₁)) (forms .forms .ensures .1 .1 src l₂) (node .node .ensures .1 .1))))
+    (λ c. search needs)
+    (λ c. let is-repeat = c .before in let kind-here = is-repeat .before in let plain = kind-here .before .before .before .before in pair (leaves-less
+    (plain .plain .ensures .1 .0) refl) (λ src l. (let l₁ = lies-still l (plain .plain .ensures .1 .0 .kept) in repeated-one l₁ 0 _ (kind-here
+    .kind-here .ensures .1 src l₁) (plain .plain .ensures .1 .1 src l) (sym (is-repeat .is-repeat .ensures .1) ∙ c .if1 .left))))
 
 abbrev pub forms-cs : ℕ → Calls cycle.Lts-forms.Claims
 forms-cs t = calls-4 minus kind-here is-repeat (below form-rank t)
@@ -159,118 +136,94 @@ forms-inv s₀ n levels turns₀ a₀ s turns a =
 abbrev forms-turns : cycle.Lts-forms.MeasureT-loop
 forms-turns s₀ n levels turns₀ a₀ s turns a = turns
 
-forms-loop-again : (t : ℕ) → cycle.Lts-forms.Need-loop-again (forms-cs t .claims) (at forms-rank t) (forms-rank .post) forms-inv forms-turns
-forms-loop-again t c =
-    let after-form = c .before .before in let after-if1 = after-form .before .before in let after-is-repeat = after-if1 .before in let after-kind-here
-    = after-is-repeat .before in let in-loop = after-kind-here .before .before .before in many-turns _ _ _ _ before-next (in-loop .loop .inv)
-    (after-kind-here .kind-here .ensures .1) (sym (after-is-repeat .is-repeat .ensures .1) ∙ after-if1 .if1 .taken) (after-form .form .ensures .1)
-    (after-form .form .kept .0) (omega arith)
-
-forms-returns : (t : ℕ) → cycle.Lts-forms.Need-returns (forms-cs t .claims) (at forms-rank t) (forms-rank .post) forms-inv forms-turns
-forms-returns t c =
-    let after-is-repeat = c .before in let after-kind-here = after-is-repeat .before in let in-loop = after-kind-here .before .before .before in let
-    after-minus = in-loop .before in many-ends _ _ _ _ before-last (wordless no-repeat-words) (after-minus .minus .ensures .1) (in-loop .loop .inv)
-    (after-kind-here .kind-here .ensures .1) (sym (after-is-repeat .is-repeat .ensures .1) ∙ c .if1 .left)
-
 pub forms-ok : {M : Type 1} (t : ℕ) → cycle.Lts-forms.Closed (forms-cs t .claims) (at forms-rank t) (forms-rank .post) M
 forms-ok t =
     cycle.Lts-forms.spec (forms-cs t .claims) (at forms-rank t) (forms-rank .post) forms-inv forms-turns (λ c κs. tt)
     (λ c. so-begins (c .before .before .pre .1) before-first)
     (λ c κs. ready-leaves (c .before .before .loop .inv .room) (c .before .before .loop .inv .same) refl (c .before .before .before .before .before
-    .pre .1)) (λ c κs. tt) (λ c κs. let if1 = c .before in let is-repeat = if1 .before in let at-loop = is-repeat .before .before .before .before in
-    let start = at-loop .before .before .before in pair (omega arith) (pair (ready-leaves (at-loop .loop .inv .room) (at-loop .loop .inv .same) refl
-    (start .pre .1)) (repeat-positive _ (is-repeat .is-repeat .ensures .1) (if1 .if1 .taken)))) (λ c. omega arith) (λ c. omega arith)
-    (forms-loop-again t) (λ c. search needs) (forms-returns t) (λ c. search needs)
+    .pre .1))
+    (λ c κs. tt)
+    (λ c κs. let if1 = c .before in let is-repeat = if1 .before in let at-loop = is-repeat .before .before .before .before in let start = at-loop
+    .before .before .before in pair (omega arith) (pair (ready-leaves (at-loop .loop .inv .room) (at-loop .loop .inv .same) refl (start .pre .1))
+    (repeat-positive _ (is-repeat .is-repeat .ensures .1) (if1 .if1 .taken))))
+    (λ c. omega arith) (λ c. omega arith)
+    (λ c. let form = c .before .before in let if1 = form .before .before in let is-repeat = if1 .before in let kind-here = is-repeat .before in let
+    in-loop = kind-here .before .before .before in many-turns _ _ _ _ before-next (in-loop .loop .inv) (kind-here .kind-here .ensures .1) (sym
+    (is-repeat .is-repeat .ensures .1) ∙ if1 .if1 .taken) (form .form .ensures .1) (form .form .kept .0) (omega arith))
+    (λ c. search needs)
+    (λ c. let is-repeat = c .before in let kind-here = is-repeat .before in let in-loop = kind-here .before .before .before in let minus = in-loop
+    .before in many-ends _ _ _ _ before-last (wordless no-repeat-words) (minus .minus .ensures .1) (in-loop .loop .inv) (kind-here .kind-here .ensures
+    .1) (sym (is-repeat .is-repeat .ensures .1) ∙ c .if1 .left))
+    (λ c. search needs)
     (λ c. many-spent _ _ _ _ before-last (wordless no-repeat-words) (c .before .before .minus .ensures .1) (c .before .loop .inv) (omega arith))
 
 abbrev pub form-cs : ℕ → Calls cycle.Lts-form.Claims
 form-cs t = calls-5 free-of expect begin-item (below expr-rank t) set-size
 
-form-returns : (t : ℕ) → cycle.Lts-form.Need-returns (form-cs t .claims) (at form-rank t) (form-rank .post)
-form-returns t c =
-    let after-begin-item = c .before .before .before in let after-expect = after-begin-item .before .before in pair
-    (room-left (left (after-expect .expect .ensures .1 .0) less (after-begin-item .begin-item .ensures .1 .0)) refl)
-    (λ src l k. repeat-read src 0 _ k (c .if1 .taken) (after-expect .expect .ensures .1 .1 src l) (after-begin-item .begin-item .ensures .1 .1))
-
-form-returns-2 : (t : ℕ) → cycle.Lts-form.Need-returns-2 (form-cs t .claims) (at form-rank t) (form-rank .post)
-form-returns-2 t c =
-    let after-set-size = c .before .before in let after-expr = after-set-size .before .before .before .before in let after-if1 = after-expr .before
-    .before in let after-begin-item = after-if1 .before .before .before in let after-expect = after-begin-item .before .before in let after-free-of =
-    after-expect .before .before in let start = after-free-of .before .before .before in pair
-    (room-left (left (after-expect .expect .ensures .1 .0) less (after-begin-item .begin-item .ensures .1 .0) plus (after-expr .expr .ensures .1 .0)
-    plus (after-set-size .set-size .ensures .1 .0)) refl) (λ src l k. repeat-on-read src _ _ k (after-free-of .free-of .ensures .1) (after-if1 .if1
-    .left) (low-past (start .pre .1 .0) (after-expect .expect .ensures .1 .0)) (after-expect .expect .ensures .1 .1 src l) (after-begin-item
-    .begin-item .ensures .1 .1) (after-expr .expr .ensures .1 .1 src (lies-still l (after-begin-item .begin-item .ensures .1 .0 .kept)))
-    (after-set-size .set-size .ensures .1 .1))
-
 pub form-ok : {M : Type 1} (t : ℕ) → cycle.Lts-form.Closed (form-cs t .claims) (at form-rank t) (form-rank .post) M
 form-ok t =
     cycle.Lts-form.spec (form-cs t .claims) (at form-rank t) (form-rank .post) (λ c κs. tt) (λ c κs. omega arith)
-    (λ c κs. past-symbol refl (c .before .expect .ensures)) (λ c. search needs) (form-returns t)
+    (λ c κs. past-symbol refl (c .before .expect .ensures)) (λ c. search needs)
+    (λ c. let begin-item = c .before .before .before in let expect = begin-item .before .before in pair (room-left (left (expect .expect .ensures .1
+    .0) less (begin-item .begin-item .ensures .1 .0)) refl) (λ src l k. repeat-read src 0 _ k (c .if1 .taken) (expect .expect .ensures .1 .1 src l)
+    (begin-item .begin-item .ensures .1 .1)))
     (λ c κs. pair (omega arith) (pair (ready-takes (c .before .before .before .before .begin-item .ensures .1 .0) (c .before .before .before .before
     .begin-item .kept .0) (c .before .before .before .before .begin-item .ensures .0)) (omega arith)))
     (λ c κs. let expr = c .before .before .before in let expect = expr .before .before .before .before .before .before .before in let free-of = expect
     .before .before in pair (past-expression refl (expr .expr .ensures) (expr .expr .kept .0)) (item-low (free-of .free-of .ensures .1) (expect
-    .expect .ensures .0 .0))) (λ c. search needs) (form-returns-2 t)
+    .expect .ensures .0 .0)))
+    (λ c. search needs)
+    (λ c. let set-size = c .before .before in let expr = set-size .before .before .before .before in let if1 = expr .before .before in let begin-item
+    = if1 .before .before .before in let expect = begin-item .before .before in let free-of = expect .before .before in let start = free-of .before
+    .before .before in pair (room-left (left (expect .expect .ensures .1 .0) less (begin-item .begin-item .ensures .1 .0) plus (expr .expr .ensures .1
+    .0) plus (set-size .set-size .ensures .1 .0)) refl) (λ src l k. repeat-on-read src _ _ k (free-of .free-of .ensures .1) (if1 .if1 .left) (low-past
+    (start .pre .1 .0) (expect .expect .ensures .1 .0)) (expect .expect .ensures .1 .1 src l) (begin-item .begin-item .ensures .1 .1) (expr .expr
+    .ensures .1 .1 src (lies-still l (begin-item .begin-item .ensures .1 .0 .kept))) (set-size .set-size .ensures .1 .1)))
 
 abbrev pub plain-cs : ℕ → Calls cycle.Lts-plain.Claims
 plain-cs t =
     calls-11 kind-here is-guard (below when-rank t) is-leave leave (below test-rank t) (below step-rank t) (below pick-rank t) (below give-rank t)
     (below block-rank t) (below bare-rank t)
 
-plain-returns : (t : ℕ) → cycle.Lts-plain.Need-returns (plain-cs t .claims) (at plain-rank t) (plain-rank .post)
-plain-returns t c =
-    let after-when = c .before .before in let after-if1 = after-when .before .before in let after-is-guard = after-if1 .before in let after-kind-here
-    = after-is-guard .before in unlabelled-guarded _ (after-kind-here .kind-here .ensures .1) (after-is-guard .is-guard .ensures .1)
-    (after-if1 .if1 .taken) (after-when .when .ensures .1)
-
-plain-returns-2 : (t : ℕ) → cycle.Lts-plain.Need-returns-2 (plain-cs t .claims) (at plain-rank t) (plain-rank .post)
-plain-returns-2 t c =
-    let after-leave = c .before .before in let after-if2 = after-leave .before .before in let after-is-leave = after-if2 .before in let after-if1 =
-    after-is-leave .before in let after-is-guard = after-if1 .before in let after-kind-here = after-is-guard .before in unlabelled-leave _
-    (after-kind-here .kind-here .ensures .1) (after-is-guard .is-guard .ensures .1) (after-if1 .if1 .left) (after-is-leave .is-leave .ensures .1)
-    (after-if2 .if2 .taken) (after-leave .leave .ensures .1)
-
-plain-returns-8 : (t : ℕ) → cycle.Lts-plain.Need-returns-8 (plain-cs t .claims) (at plain-rank t) (plain-rank .post)
-plain-returns-8 t c =
-    let after-bare = c .before .before in let after-match = after-bare .before .before in let after-if2 = after-match .before in let after-is-leave =
-    after-if2 .before in let after-if1 = after-is-leave .before in let after-is-guard = after-if1 .before in let after-kind-here = after-is-guard
-    .before in unlabelled-other _ (after-kind-here .kind-here .ensures .1) (after-is-guard .is-guard .ensures .1) (after-if1 .if1 .left)
-    (after-is-leave .is-leave .ensures .1) (after-if2 .if2 .left) (after-match .match .rest) (after-bare .bare .ensures .1)
-
 pub plain-ok : {M : Type 1} (t : ℕ) → cycle.Lts-plain.Closed (plain-cs t .claims) (at plain-rank t) (plain-rank .post) M
 plain-ok t =
     cycle.Lts-plain.spec (plain-cs t .claims) (at plain-rank t) (plain-rank .post) (λ c κs. omega arith) (λ c κs. tt)
     (λ c κs. let if1 = c .before in let is-guard = if1 .before in let start = is-guard .before .before .before .before in pair (omega arith) (pair
-    (start .pre .1) (guard-positive _ (is-guard .is-guard .ensures .1) (if1 .if1 .taken)))) (λ c. search needs) (plain-returns t) (λ c κs. tt)
+    (start .pre .1) (guard-positive _ (is-guard .is-guard .ensures .1) (if1 .if1 .taken))))
+    (λ c. search needs)
+    (λ c. let when = c .before .before in let if1 = when .before .before in let is-guard = if1 .before in let kind-here = is-guard .before in
+    unlabelled-guarded _ (kind-here .kind-here .ensures .1) (is-guard .is-guard .ensures .1) (if1 .if1 .taken) (when .when .ensures .1))
+    (λ c κs. tt)
     (λ c κs. let if2 = c .before in let is-leave = if2 .before in let start = is-leave .before .before .before .before .before .before in pair (start
-    .pre .1) (leave-positive _ (is-leave .is-leave .ensures .1) (if2 .if2 .taken))) (λ c. search needs) (plain-returns-2 t) (λ c κs. omega arith)
-    (λ c κs. omega arith) (λ c κs. omega arith) (λ c κs. omega arith) (λ c κs. omega arith) (λ c κs. omega arith) (λ c. search needs)
+    .pre .1) (leave-positive _ (is-leave .is-leave .ensures .1) (if2 .if2 .taken)))
+    (λ c. search needs)
+    (λ c. let leave = c .before .before in let if2 = leave .before .before in let is-leave = if2 .before in let if1 = is-leave .before in let is-guard
+    = if1 .before in let kind-here = is-guard .before in unlabelled-leave _ (kind-here .kind-here .ensures .1) (is-guard .is-guard .ensures .1) (if1
+    .if1 .left) (is-leave .is-leave .ensures .1) (if2 .if2 .taken) (leave .leave .ensures .1))
+    (λ c κs. omega arith) (λ c κs. omega arith) (λ c κs. omega arith) (λ c κs. omega arith) (λ c κs. omega arith) (λ c κs. omega arith)
+    (λ c. search needs)
     (λ c. unlabelled-test _ (c .before .before .before .before .before .before .before .before .before .kind-here .ensures .1) (c .before .before
-    .before .before .match .keys1) (c .before .before .test .ensures .1)) (λ c. search needs)
+    .before .before .match .keys1) (c .before .before .test .ensures .1))
+    (λ c. search needs)
     (λ c. unlabelled-for _ (c .before .before .before .before .before .before .before .before .before .kind-here .ensures .1) (c .before .before
-    .before .before .match .keys2) (c .before .before .step .ensures .1)) (λ c. search needs)
+    .before .before .match .keys2) (c .before .before .step .ensures .1))
+    (λ c. search needs)
     (λ c. unlabelled-switchon _ (c .before .before .before .before .before .before .before .before .before .kind-here .ensures .1) (c .before .before
-    .before .before .match .keys3) (c .before .before .pick .ensures .1)) (λ c. search needs)
+    .before .before .match .keys3) (c .before .before .pick .ensures .1))
+    (λ c. search needs)
     (λ c. unlabelled-resultis _ (c .before .before .before .before .before .before .before .before .before .kind-here .ensures .1) (c .before .before
-    .before .before .match .keys4) (c .before .before .give .ensures .1)) (λ c. search needs)
+    .before .before .match .keys4) (c .before .before .give .ensures .1))
+    (λ c. search needs)
     (λ c. unlabelled-block _ (c .before .before .before .before .before .before .before .before .before .kind-here .ensures .1) (c .before .before
-    .before .before .match .keys5) (c .before .before .block .ensures .1)) (λ c. search needs) (plain-returns-8 t)
+    .before .before .match .keys5) (c .before .before .block .ensures .1))
+    (λ c. search needs)
+    (λ c. let bare = c .before .before in let after-match = bare .before .before in let if2 = after-match .before in let is-leave = if2 .before in let
+    if1 = is-leave .before in let is-guard = if1 .before in let kind-here = is-guard .before in unlabelled-other _ (kind-here .kind-here .ensures .1)
+    (is-guard .is-guard .ensures .1) (if1 .if1 .left) (is-leave .is-leave .ensures .1) (if2 .if2 .left) (after-match .match .rest) (bare .bare
+    .ensures .1))
 
 abbrev pub test-cs : ℕ → Calls cycle.Lts-test.Claims
 test-cs t = calls-5 free-of expect (below expr-rank t) (below cmd-rank t) node
-
-test-returns : (t : ℕ) → cycle.Lts-test.Need-returns (test-cs t .claims) (at test-rank t) (test-rank .post)
-test-returns t c =
-    let after-node = c .before .before in let after-cmd2 = after-node .before .before .before .before in let after-expect3 = after-cmd2 .before
-    .before in let after-cmd = after-expect3 .before .before .before .before in let after-expect2 = after-cmd .before .before in let after-expr =
-    after-expect2 .before .before .before .before in let after-expect = after-expr .before .before in let after-free-of = after-expect .before .before
-    in pair (room-left (left (after-expect .expect .ensures .1 .0) plus (after-expr .expr .ensures .1 .0) plus (after-expect2 .expect2 .ensures .1 .0)
-    plus (after-cmd .cmd .ensures .1 .0) plus (after-expect3 .expect3 .ensures .1 .0) plus (after-cmd2 .cmd2 .ensures .1 .0) less (after-node .node
-    .ensures .1 .0)) refl) (λ src l. (let l₂ = lies-still l (after-expr .expr .ensures .1 .0 .kept) in let l₄ = lies-still l₂ (after-cmd .cmd .ensures
-    .1 .0 .kept) in test-read l _ _ (after-free-of .free-of .ensures .1) (after-expect .expect .ensures .1 .1 src l) (after-expr .expr .ensures .1 .1
-    src l) (after-expect2 .expect2 .ensures .1 .1 src l₂) (after-cmd .cmd .ensures .1 .1 src l₂) (after-expect3 .expect3 .ensures .1 .1 src l₄)
-    (after-cmd2 .cmd2 .ensures .1 .1 src l₄) (after-node .node .ensures .1 .1)))
 
 pub test-ok : {M : Type 1} (t : ℕ) → cycle.Lts-test.Closed (test-cs t .claims) (at test-rank t) (test-rank .post) M
 test-ok t =
@@ -281,20 +234,19 @@ test-ok t =
     (λ c κs. let e = c .before .before .before .cmd in pair (past-part refl (e .ensures) (e .kept .0)) (omega arith))
     (λ c κs. pair (omega arith) (past-symbol refl (c .before .expect3 .ensures)))
     (λ c κs. ready-leaves (c .before .before .before .cmd2 .ensures .1 .0) (c .before .before .before .cmd2 .kept .0) refl (past-symbol refl (c
-    .before .before .before .before .before .expect3 .ensures))) (λ c. search needs) (test-returns t)
+    .before .before .before .before .before .expect3 .ensures)))
+    (λ c. search needs)
+    (λ c. let node = c .before .before in let cmd2 = node .before .before .before .before in let expect3 = cmd2 .before .before in let cmd = expect3
+    .before .before .before .before in let expect2 = cmd .before .before in let expr = expect2 .before .before .before .before in let expect = expr
+    .before .before in let free-of = expect .before .before in pair (room-left (left (expect .expect .ensures .1 .0) plus (expr .expr .ensures .1 .0)
+    plus (expect2 .expect2 .ensures .1 .0) plus (cmd .cmd .ensures .1 .0) plus (expect3 .expect3 .ensures .1 .0) plus (cmd2 .cmd2 .ensures .1 .0) less
+    (node .node .ensures .1 .0)) refl) (λ src l. (let l₂ = lies-still l (expr .expr .ensures .1 .0 .kept) in let l₄ = lies-still l₂ (cmd .cmd .ensures
+    .1 .0 .kept) in test-read l _ _ (free-of .free-of .ensures .1) (expect .expect .ensures .1 .1 src l) (expr .expr .ensures .1 .1 src l) (expect2
+    .expect2 .ensures .1 .1 src l₂) (cmd .cmd .ensures .1 .1 src l₂) (expect3 .expect3 .ensures .1 .1 src l₄) (cmd2 .cmd2 .ensures .1 .1 src l₄) (node
+    .node .ensures .1 .1))))
 
 abbrev pub when-cs : ℕ → Calls cycle.Lts-when.Claims
 when-cs t = calls-5 free-of expect (below expr-rank t) (below cmd-rank t) node
-
-when-returns : (t : ℕ) → cycle.Lts-when.Need-returns (when-cs t .claims) (at when-rank t) (when-rank .post)
-when-returns t c =
-    let after-node = c .before .before in let after-cmd = after-node .before .before .before .before in let after-expect2 = after-cmd .before .before
-    in let after-expr = after-expect2 .before .before .before .before in let after-expect = after-expr .before .before in let after-free-of =
-    after-expect .before .before in pair (room-left (left (after-expect .expect .ensures .1 .0) plus (after-expr .expr .ensures .1 .0) plus
-    (after-expect2 .expect2 .ensures .1 .0) plus (after-cmd .cmd .ensures .1 .0) less (after-node .node .ensures .1 .0)) refl)
-    (λ src l k. (let l₂ = lies-still l (after-expr .expr .ensures .1 .0 .kept) in guarded-read l _ _ (after-free-of .free-of .ensures .1) k
-    (after-expect .expect .ensures .1 .1 src l) (after-expr .expr .ensures .1 .1 src l) (after-expect2 .expect2 .ensures .1 .1 src l₂) (after-cmd .cmd
-    .ensures .1 .1 src l₂) (after-node .node .ensures .1 .1)))
 
 pub when-ok : {M : Type 1} (t : ℕ) → cycle.Lts-when.Closed (when-cs t .claims) (at when-rank t) (when-rank .post) M
 when-ok t =
@@ -303,80 +255,58 @@ when-ok t =
     (λ c κs. let e = c .before .before .before .expr in pair (past-expression refl (e .ensures) (e .kept .0)) (omega arith))
     (λ c κs. pair (omega arith) (past-symbol refl (c .before .expect2 .ensures)))
     (λ c κs. ready-leaves (c .before .before .before .cmd .ensures .1 .0) (c .before .before .before .cmd .kept .0) refl (past-symbol refl (c .before
-    .before .before .before .before .expect2 .ensures))) (λ c. search needs) (when-returns t)
+    .before .before .before .before .expect2 .ensures)))
+    (λ c. search needs)
+    (λ c. let node = c .before .before in let cmd = node .before .before .before .before in let expect2 = cmd .before .before in let expr = expect2
+    .before .before .before .before in let expect = expr .before .before in let free-of = expect .before .before in pair (room-left (left (expect
+    .expect .ensures .1 .0) plus (expr .expr .ensures .1 .0) plus (expect2 .expect2 .ensures .1 .0) plus (cmd .cmd .ensures .1 .0) less (node .node
+    .ensures .1 .0)) refl) (λ src l k. (let l₂ = lies-still l (expr .expr .ensures .1 .0 .kept) in guarded-read l _ _ (free-of .free-of .ensures .1) k
+    (expect .expect .ensures .1 .1 src l) (expr .expr .ensures .1 .1 src l) (expect2 .expect2 .ensures .1 .1 src l₂) (cmd .cmd .ensures .1 .1 src l₂)
+    (node .node .ensures .1 .1))))
 
 abbrev pub give-cs : ℕ → Calls cycle.Lts-give.Claims
 give-cs t = calls-5 free-of place-here expect (below expr-rank t) node
-
-give-returns : (t : ℕ) → cycle.Lts-give.Need-returns (give-cs t .claims) (at give-rank t) (give-rank .post)
-give-returns t c =
-    let after-node = c .before .before in let after-expr = after-node .before .before .before .before in let after-expect = after-expr .before .before
-    in let after-place-here = after-expect .before .before in let after-free-of = after-place-here .before .before in pair
-    (room-left (left (after-expect .expect .ensures .1 .0) plus (after-expr .expr .ensures .1 .0) less (after-node .node .ensures .1 .0)) refl)
-    (λ src l. resultis-read l _ _ (after-free-of .free-of .ensures .1) (after-place-here .place-here .ensures .1 src l) (after-expect .expect .ensures
-    .1 .1 src l) (after-expr .expr .ensures .1 .1 src l) (after-node .node .ensures .1 .1))
 
 pub give-ok : {M : Type 1} (t : ℕ) → cycle.Lts-give.Closed (give-cs t .claims) (at give-rank t) (give-rank .post) M
 give-ok t =
     cycle.Lts-give.spec (give-cs t .claims) (at give-rank t) (give-rank .post) (λ c κs. tt) (λ c κs. omega arith) (λ c κs. omega arith)
     (λ c κs. pair (omega arith) (pair (past-symbol refl (c .before .expect .ensures)) (omega arith)))
     (λ c κs. ready-leaves (c .before .before .before .expr .ensures .1 .0) (c .before .before .before .expr .kept .0) refl (past-symbol refl (c
-    .before .before .before .before .before .expect .ensures))) (λ c. search needs) (give-returns t)
+    .before .before .before .before .before .expect .ensures)))
+    (λ c. search needs)
+    (λ c. let node = c .before .before in let expr = node .before .before .before .before in let expect = expr .before .before in let place-here =
+    expect .before .before in let free-of = place-here .before .before in pair (room-left (left (expect .expect .ensures .1 .0) plus (expr .expr
+    .ensures .1 .0) less (node .node .ensures .1 .0)) refl) (λ src l. resultis-read l _ _ (free-of .free-of .ensures .1) (place-here .place-here
+    .ensures .1 src l) (expect .expect .ensures .1 .1 src l) (expr .expr .ensures .1 .1 src l) (node .node .ensures .1 .1)))
 
 abbrev pub bare-cs : ℕ → Calls cycle.Lts-bare.Claims
 bare-cs t = calls-7 free-of (below expr-rank t) kind-here goes-on-assignment (below set-rank t) is-call refuse
-
-bare-returns : (t : ℕ) → cycle.Lts-bare.Need-returns (bare-cs t .claims) (at bare-rank t) (bare-rank .post)
-bare-returns t c =
-    let after-set = c .before .before in let after-if1 = after-set .before .before in let after-goes-on-assignment = after-if1 .before in let
-    after-kind-here = after-goes-on-assignment .before in let after-expr = after-kind-here .before .before .before .before in let after-free-of =
-    after-expr .before .before in pair (room-left (left (after-expr .expr .ensures .1 .0) plus (after-set .set .ensures .1 .0)) refl)
-    (λ src l. (let l₁ = lies-still l (after-expr .expr .ensures .1 .0 .kept) in assignment-first src _ _ (after-kind-here .kind-here .ensures .1 src
-    l₁) (after-expr .expr .ensures .1 .1 src l) (after-free-of .free-of .ensures .1) (sym (after-goes-on-assignment .goes-on-assignment .ensures .1) ∙
-    after-if1 .if1 .taken) (after-set .set .ensures .1 .1 src l₁ .0) (λ e q. after-set .set .ensures .1 .1 src l₁ .1 e (ap (λ (z : ℕ). freeOf z
-    (after-expr .expr .result)) (after-expr .expr .kept .0) ∙ q))))
-
-bare-returns-2 : (t : ℕ) → cycle.Lts-bare.Need-returns-2 (bare-cs t .claims) (at bare-rank t) (bare-rank .post)
-bare-returns-2 t c =
-    let after-is-call = c .before in let after-if1 = after-is-call .before .before in let after-goes-on-assignment = after-if1 .before in let
-    after-kind-here = after-goes-on-assignment .before in let after-expr = after-kind-here .before .before .before .before in pair
-    (after-expr .expr .ensures .1 .0) (λ src l. (let l₁ = lies-still l (after-expr .expr .ensures .1 .0 .kept) in call-alone src 0 _ (after-kind-here
-    .kind-here .ensures .1 src l₁) (after-expr .expr .ensures .1 .1 src l) (after-is-call .is-call .ensures .1) (sym (after-goes-on-assignment
-    .goes-on-assignment .ensures .1) ∙ after-if1 .if1 .left) (c .if2 .taken)))
-
-bare-returns-3 : (t : ℕ) → cycle.Lts-bare.Need-returns-3 (bare-cs t .claims) (at bare-rank t) (bare-rank .post)
-bare-returns-3 t c =
-    let after-if2 = c .before .before in let after-is-call = after-if2 .before in let after-if1 = after-is-call .before .before in let
-    after-goes-on-assignment = after-if1 .before in let after-kind-here = after-goes-on-assignment .before in let after-expr = after-kind-here .before
-    .before .before .before in pair (room-left (left (after-expr .expr .ensures .1 .0) plus (c .refuse .ensures .1 .0)) refl)
-    (λ src l. (let l₁ = lies-still l (after-expr .expr .ensures .1 .0 .kept) in no-call src 0 _ (after-kind-here .kind-here .ensures .1 src l₁)
-    (after-expr .expr .ensures .1 .1 src l) (after-is-call .is-call .ensures .1) (sym (after-goes-on-assignment .goes-on-assignment .ensures .1) ∙
-    after-if1 .if1 .left) (after-if2 .if2 .left) (c .refuse .ensures .1 .1) (refuses-on (c .refuse .ensures .1 .1))))
 
 pub bare-ok : {M : Type 1} (t : ℕ) → cycle.Lts-bare.Closed (bare-cs t .claims) (at bare-rank t) (bare-rank .post) M
 bare-ok t =
     cycle.Lts-bare.spec (bare-cs t .claims) (at bare-rank t) (bare-rank .post) (λ c κs. tt) (λ c κs. omega arith)
     (λ c κs. let e = c .before .before .before .expr in past-expression refl (e .ensures) (e .kept .0)) (λ c κs. tt)
-    (λ c κs. pair (omega arith) (c .before .before .before .kind-here .ensures .0)) (λ c. search needs) (bare-returns t)
-    (λ c κs. c .before .before .before .kind-here .ensures .0) (λ c. search needs) (bare-returns-2 t) (λ c κs. c .before .before .is-call .ensures .0)
-    (λ c. search needs) (bare-returns-3 t)
+    (λ c κs. pair (omega arith) (c .before .before .before .kind-here .ensures .0)) (λ c. search needs)
+    (λ c. let set = c .before .before in let if1 = set .before .before in let goes-on-assignment = if1 .before in let kind-here = goes-on-assignment
+    .before in let expr = kind-here .before .before .before .before in let free-of = expr .before .before in pair (room-left (left (expr .expr
+    .ensures .1 .0) plus (set .set .ensures .1 .0)) refl) (λ src l. (let l₁ = lies-still l (expr .expr .ensures .1 .0 .kept) in assignment-first src _
+    _ (kind-here .kind-here .ensures .1 src l₁) (expr .expr .ensures .1 .1 src l) (free-of .free-of .ensures .1) (sym (goes-on-assignment
+    .goes-on-assignment .ensures .1) ∙ if1 .if1 .taken) (set .set .ensures .1 .1 src l₁ .0) (λ e q. set .set .ensures .1 .1 src l₁ .1 e (ap (λ (z :
+    ℕ). freeOf z (expr .expr .result)) (expr .expr .kept .0) ∙ q)))))
+    (λ c κs. c .before .before .before .kind-here .ensures .0) (λ c. search needs)
+    (λ c. let is-call = c .before in let if1 = is-call .before .before in let goes-on-assignment = if1 .before in let kind-here = goes-on-assignment
+    .before in let expr = kind-here .before .before .before .before in pair (expr .expr .ensures .1 .0) (λ src l. (let l₁ = lies-still l (expr .expr
+    .ensures .1 .0 .kept) in call-alone src 0 _ (kind-here .kind-here .ensures .1 src l₁) (expr .expr .ensures .1 .1 src l) (is-call .is-call .ensures
+    .1) (sym (goes-on-assignment .goes-on-assignment .ensures .1) ∙ if1 .if1 .left) (c .if2 .taken))))
+    (λ c κs. c .before .before .is-call .ensures .0) (λ c. search needs)
+    (λ c. let if2 = c .before .before in let is-call = if2 .before in let if1 = is-call .before .before in let goes-on-assignment = if1 .before in let
+    kind-here = goes-on-assignment .before in let expr = kind-here .before .before .before .before in pair (room-left (left (expr .expr .ensures .1
+    .0) plus (c .refuse .ensures .1 .0)) refl) (λ src l. (let l₁ = lies-still l (expr .expr .ensures .1 .0 .kept) in no-call src 0 _ (kind-here
+    .kind-here .ensures .1 src l₁) (expr .expr .ensures .1 .1 src l) (is-call .is-call .ensures .1) (sym (goes-on-assignment .goes-on-assignment
+    .ensures .1) ∙ if1 .if1 .left) (if2 .if2 .left) (c .refuse .ensures .1 .1) (refuses-on (c .refuse .ensures .1 .1)))))
 
 abbrev pub set-cs : ℕ → Calls cycle.Lts-set.Claims
 set-cs t = calls-7 free-of minus (below also-rank t) expect (below arg-rank t) (below rest-rank t) node
-
-set-returns : (t : ℕ) → cycle.Lts-set.Need-returns (set-cs t .claims) (at set-rank t) (set-rank .post)
-set-returns t c =
-    let after-node = c .before .before in let after-rest = after-node .before .before .before .before in let after-arg = after-rest .before .before
-    .before .before in let after-expect = after-arg .before .before in let after-minus2 = after-expect .before .before in let after-free-of2 =
-    after-minus2 .before in let after-also = after-free-of2 .before .before .before .before in let after-minus = after-also .before .before in let
-    after-free-of = after-minus .before in pair (room-left (left (after-also .also .ensures .1 .0) plus (after-expect .expect .ensures .1 .0) less
-    (after-arg .arg .ensures .1 .0) plus (after-rest .rest .ensures .1 .0) less (after-node .node .ensures .1 .0)) refl)
-    (λ src l. let l₁ = lies-still l (after-also .also .ensures .1 .0 .kept) in let l₂ = lies-still l₁ (after-arg .arg .ensures .1 .0 .kept) in pair
-    (goes-on (after-also .also .ensures .1 .1 src l) then goes-on (after-expect .expect .ensures .1 .1 src l₁) then goes-on (after-arg .arg .ensures
-    .1 .1 src l₁) then goes-on (after-rest .rest .ensures .1 .1 src l₂) then adds-on (after-node .node .ensures .1 .1)) (λ e q. assignment-read src _
-    _ _ e (l .count) q (measured _ _ (after-minus .minus .ensures .1) (after-free-of .free-of .ensures .1) refl) (measured _ _ (after-minus2 .minus2
-    .ensures .1) (after-free-of2 .free-of2 .ensures .1) (after-also .also .kept .0)) (after-also .also .ensures .1 .1 src l) (after-expect .expect
-    .ensures .1 .1 src l₁) (after-arg .arg .ensures .1 .1 src l₁) (after-rest .rest .ensures .1 .1 src l₂) (after-node .node .ensures .1 .1)))
 
 pub set-ok : {M : Type 1} (t : ℕ) → cycle.Lts-set.Closed (set-cs t .claims) (at set-rank t) (set-rank .post) M
 set-ok t =
@@ -394,11 +324,24 @@ set-ok t =
       arith,
       size-small _ (minus .minus .ensures .1) (free-of .free-of
           .ensures .1) (also .also .ensures .0 .1),
-    )) (λ c. let expect = c .before .before .before .before .before .before .before .before .before in let
-    minus2 = expect .before .before in let free-of2 = minus2 .before in omega (
+    ))
+    (λ c. let expect = c .before .before .before .before .before .before .before .before .before in let minus2 = expect .before .before in let
+    free-of2 = minus2 .before in omega (
       arith,
-      size-small _ (minus2 .minus2 .ensures .1) (free-of2 .free-of2
-          .ensures .1) (expect .expect .ensures .0 .0),
-    )) (λ c κs. let rest = c .before .before .before in let arg = rest .before .before .before .before in
-    let expect = arg .before .before in ready-leaves (rest .rest .ensures .1 .0) (rest .rest .kept .0) refl (ready-takes (arg .arg .ensures .1 .0)
-    (arg .arg .kept .0) (past-symbol refl (expect .expect .ensures)))) (λ c. search needs) (set-returns t)
+      size-small _ (minus2 .minus2 .ensures .1) (free-of2 .free-of2 .ensures .1) (expect .expect .ensures .0
+          .0),
+    ))
+    (λ c κs. let rest = c .before .before .before in let arg = rest .before .before .before .before in let expect = arg .before .before in
+    ready-leaves (rest .rest .ensures .1 .0) (rest .rest .kept .0) refl (ready-takes (arg .arg .ensures .1 .0) (arg .arg .kept .0) (past-symbol refl
+    (expect .expect .ensures))))
+    (λ c. search needs)
+    (λ c. let node = c .before .before in let rest = node .before .before .before .before in let arg = rest .before .before .before .before in let
+    expect = arg .before .before in let minus2 = expect .before .before in let free-of2 = minus2 .before in let also = free-of2 .before .before
+    .before .before in let minus = also .before .before in let free-of = minus .before in pair (room-left (left (also .also .ensures .1 .0) plus
+    (expect .expect .ensures .1 .0) less (arg .arg .ensures .1 .0) plus (rest .rest .ensures .1 .0) less (node .node .ensures .1 .0)) refl) (λ src l.
+    let l₁ = lies-still l (also .also .ensures .1 .0 .kept) in let l₂ = lies-still l₁ (arg .arg .ensures .1 .0 .kept) in pair (goes-on (also .also
+    .ensures .1 .1 src l) then goes-on (expect .expect .ensures .1 .1 src l₁) then goes-on (arg .arg .ensures .1 .1 src l₁) then goes-on (rest .rest
+    .ensures .1 .1 src l₂) then adds-on (node .node .ensures .1 .1)) (λ e q. assignment-read src _ _ _ e (l .count) q (measured _ _ (minus .minus
+    .ensures .1) (free-of .free-of .ensures .1) refl) (measured _ _ (minus2 .minus2 .ensures .1) (free-of2 .free-of2 .ensures .1) (also .also .kept
+    .0)) (also .also .ensures .1 .1 src l) (expect .expect .ensures .1 .1 src l₁) (arg .arg .ensures .1 .1 src l₁) (rest .rest .ensures .1 .1 src l₂)
+    (node .node .ensures .1 .1))))

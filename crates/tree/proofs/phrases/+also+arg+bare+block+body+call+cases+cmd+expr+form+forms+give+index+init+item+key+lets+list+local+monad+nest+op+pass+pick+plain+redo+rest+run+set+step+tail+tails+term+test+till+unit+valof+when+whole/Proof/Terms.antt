@@ -33,28 +33,6 @@ use cycle.Proof.Ranks.{valof-rank, whole-rank}
 abbrev pub whole-cs : ℕ → Calls cycle.Lts-whole.Claims
 whole-cs t = calls-10 free-of (below unit-rank t) kind-here is-suffix minus place-of (below tail-rank t) (below tails-rank t) suffixed-kind node
 
-whole-returns : (t : ℕ) → cycle.Lts-whole.Need-returns (whole-cs t .claims) (at whole-rank t) (whole-rank .post)
-whole-returns t c =
-    let after-node = c .before .before in let after-suffixed-kind = after-node .before in let after-tails = after-suffixed-kind .before .before
-    .before .before in let after-tail = after-tails .before .before .before .before in let after-place-of = after-tail .before .before in let
-    after-minus = after-place-of .before .before in let after-free-of2 = after-minus .before in let after-if1 = after-free-of2 .before .before in let
-    after-is-suffix = after-if1 .before in let after-kind-here = after-is-suffix .before in let after-unit = after-kind-here .before .before .before
-    .before in let after-free-of = after-unit .before .before in pair
-    (room-left (left (after-unit .unit .ensures .1 .0) plus (after-tail .tail .ensures .1 .0) plus (after-tails .tails .ensures .1 .0) less
-    (after-node .node .ensures .1 .0)) refl) (λ src l. (let l₁ = lies-still l (after-unit .unit .ensures .1 .0 .kept) in let l₂ = lies-still l₁
-    (after-tail .tail .ensures .1 .0 .kept) in suffixed-more l₁ _ _ (after-kind-here .kind-here .ensures .1 src l₁) (after-unit .unit .ensures .1 .1
-    src l) (sym (after-is-suffix .is-suffix .ensures .1) ∙ after-if1 .if1 .taken) (after-free-of .free-of .ensures .1) (measured _ _ (after-minus
-    .minus .ensures .1) (after-free-of2 .free-of2 .ensures .1) (after-unit .unit .kept .0)) (after-place-of .place-of .ensures .1)
-    (after-suffixed-kind .suffixed-kind .ensures .1) (after-tail .tail .ensures .1 .1 src l₁ (after-kind-here .kind-here .ensures .1 src l₁))
-    (after-tails .tails .ensures .1 .1 src l₂) (after-node .node .ensures .1 .1)))
-
-whole-returns-2 : (t : ℕ) → cycle.Lts-whole.Need-returns-2 (whole-cs t .claims) (at whole-rank t) (whole-rank .post)
-whole-returns-2 t c =
-    let after-is-suffix = c .before in let after-kind-here = after-is-suffix .before in let after-unit = after-kind-here .before .before .before
-    .before in pair (after-unit .unit .ensures .1 .0) (λ src l. (let l₁ = lies-still l (after-unit .unit .ensures .1 .0 .kept) in suffixed-one l₁ 0 _
-    (after-kind-here .kind-here .ensures .1 src l₁) (after-unit .unit .ensures .1 .1 src l) (sym (after-is-suffix .is-suffix .ensures .1) ∙ c .if1
-    .left)))
-
 pub whole-ok : {M : Type 1} (t : ℕ) → cycle.Lts-whole.Closed (whole-cs t .claims) (at whole-rank t) (whole-rank .post) M
 whole-ok t =
     cycle.Lts-whole.spec (whole-cs t .claims) (at whole-rank t) (whole-rank .post) (λ c κs. tt) (λ c κs. omega arith)
@@ -65,18 +43,33 @@ whole-ok t =
       c .before .before .before .before .before .before .before .before .before .before .before .before .before .before
           .before .before .before .before .before .before .before .pre .0,
     )) (past-part refl (c .before .before .before .tail .ensures) (c .before .before
-    .before .tail .kept .0))) (λ c. let place-of = c .before .before .before .before .before .before .before .before .before in let minus = place-of
-    .before .before in let free-of2 = minus .before in omega (
+    .before .tail .kept .0)))
+    (λ c. let place-of = c .before .before .before .before .before .before .before .before .before in let minus = place-of .before .before in let
+    free-of2 = minus .before in omega (
       arith,
-      size-small _ (minus .minus .ensures .1) (free-of2 .free-of2 .ensures .1)
-          (place-of .place-of .ensures .0),
-    )) (λ c κs. tt) (λ c κs. ready-leaves (c .before .before .before .before .tails .ensures .1 .0) (c .before .before
-    .before .before .tails .kept .0) refl (ready-leaves (c .before .before .before .before .before .before .before .before .tail .ensures .1 .0) (c
-    .before .before .before .before .before .before .before .before .tail .kept .0) refl (c .before .before .before .before .before .before .before
-    .before .tail .ensures .0 .1))) (λ c. let node = c .before .before in let tails = node .before .before .before .before .before in let tail = tails
-    .before .before .before .before in let unit = tail .before .before .before .before .before .before .before .before .before .before .before .before
-    .before in node .node .kept .0 ∙ tails .tails .kept .0 ∙ tail .tail .kept .0 ∙ unit .unit .kept .0) (whole-returns t) (λ c. search needs)
-    (whole-returns-2 t)
+      size-small _ (minus .minus .ensures .1) (free-of2 .free-of2 .ensures .1) (place-of .place-of .ensures
+          .0),
+    ))
+    (λ c κs. tt)
+    (λ c κs. ready-leaves (c .before .before .before .before .tails .ensures .1 .0) (c .before .before .before .before .tails .kept .0) refl
+    (ready-leaves (c .before .before .before .before .before .before .before .before .tail .ensures .1 .0) (c .before .before .before .before .before
+    .before .before .before .tail .kept .0) refl (c .before .before .before .before .before .before .before .before .tail .ensures .0 .1)))
+    (λ c. let node = c .before .before in let tails = node .before .before .before .before .before in let tail = tails .before .before .before .before
+    in let unit = tail .before .before .before .before .before .before .before .before .before .before .before .before .before in node .node .kept .0
+    ∙ tails .tails .kept .0 ∙ tail .tail .kept .0 ∙ unit .unit .kept .0)
+    (λ c. let node = c .before .before in let suffixed-kind = node .before in let tails = suffixed-kind .before .before .before .before in let tail =
+    tails .before .before .before .before in let place-of = tail .before .before in let minus = place-of .before .before in let free-of2 = minus
+    .before in let if1 = free-of2 .before .before in let is-suffix = if1 .before in let kind-here = is-suffix .before in let unit = kind-here .before
+    .before .before .before in let free-of = unit .before .before in pair (room-left (left (unit .unit .ensures .1 .0) plus (tail .tail .ensures .1
+    .0) plus (tails .tails .ensures .1 .0) less (node .node .ensures .1 .0)) refl) (λ src l. (let l₁ = lies-still l (unit .unit .ensures .1 .0 .kept)
+    in let l₂ = lies-still l₁ (tail .tail .ensures .1 .0 .kept) in suffixed-more l₁ _ _ (kind-here .kind-here .ensures .1 src l₁) (unit .unit .ensures
+    .1 .1 src l) (sym (is-suffix .is-suffix .ensures .1) ∙ if1 .if1 .taken) (free-of .free-of .ensures .1) (measured _ _ (minus .minus .ensures .1)
+    (free-of2 .free-of2 .ensures .1) (unit .unit .kept .0)) (place-of .place-of .ensures .1) (suffixed-kind .suffixed-kind .ensures .1) (tail .tail
+    .ensures .1 .1 src l₁ (kind-here .kind-here .ensures .1 src l₁)) (tails .tails .ensures .1 .1 src l₂) (node .node .ensures .1 .1))))
+    (λ c. search needs)
+    (λ c. let is-suffix = c .before in let kind-here = is-suffix .before in let unit = kind-here .before .before .before .before in pair (unit .unit
+    .ensures .1 .0) (λ src l. (let l₁ = lies-still l (unit .unit .ensures .1 .0 .kept) in suffixed-one l₁ 0 _ (kind-here .kind-here .ensures .1 src
+    l₁) (unit .unit .ensures .1 .1 src l) (sym (is-suffix .is-suffix .ensures .1) ∙ c .if1 .left))))
 
 abbrev pub unit-cs : ℕ → Calls cycle.Lts-unit.Claims
 unit-cs t = calls-4 kind-here (below nest-rank t) (below valof-rank t) atom
@@ -84,24 +77,18 @@ unit-cs t = calls-4 kind-here (below nest-rank t) (below valof-rank t) atom
 pub unit-ok : {M : Type 1} (t : ℕ) → cycle.Lts-unit.Closed (unit-cs t .claims) (at unit-rank t) (unit-rank .post) M
 unit-ok t =
     cycle.Lts-unit.spec (unit-cs t .claims) (at unit-rank t) (unit-rank .post) (λ c κs. omega arith) (λ c κs. omega arith) (λ c κs. omega arith)
-    (λ c κs. omega arith) (λ c. search needs) (λ c. primary-bracketed _ (c .before .before .before .before .before .kind-here .ensures .1) (c .before
-    .before .before .before .match .keys1) (c .before .before .nest .ensures .1)) (λ c. search needs)
+    (λ c κs. omega arith) (λ c. search needs)
+    (λ c. primary-bracketed _ (c .before .before .before .before .before .kind-here .ensures .1) (c .before .before .before .before .match .keys1) (c
+    .before .before .nest .ensures .1))
+    (λ c. search needs)
     (λ c. primary-valof _ (c .before .before .before .before .before .kind-here .ensures .1) (c .before .before .before .before .match .keys2) (c
-    .before .before .valof .ensures .1)) (λ c. search needs) (λ c. primary-atom _ (c .before .before .before .before .before .kind-here .ensures .1)
-    (c .before .before .before .before .match .rest) (c .before .before .atom .ensures .1))
+    .before .before .valof .ensures .1))
+    (λ c. search needs)
+    (λ c. primary-atom _ (c .before .before .before .before .before .kind-here .ensures .1) (c .before .before .before .before .match .rest) (c
+    .before .before .atom .ensures .1))
 
 abbrev pub nest-cs : ℕ → Calls cycle.Lts-nest.Claims
 nest-cs t = calls-6 refuse free-of place-here expect (below expr-rank t) node
-
-nest-returns-2 : (t : ℕ) → cycle.Lts-nest.Need-returns-2 (nest-cs t .claims) (at nest-rank t) (nest-rank .post)
-nest-returns-2 t c =
-    let after-node = c .before .before in let after-expect2 = after-node .before .before in let after-expr = after-expect2 .before .before .before
-    .before in let after-expect = after-expr .before .before in let after-place-here = after-expect .before .before in let after-free-of =
-    after-place-here .before .before in let after-if1 = after-free-of .before .before in pair
-    (room-left (left (after-expect .expect .ensures .1 .0) plus (after-expr .expr .ensures .1 .0) plus (after-expect2 .expect2 .ensures .1 .0) less
-    (after-node .node .ensures .1 .0)) refl) (λ src l. bracketed-read l _ _ (after-free-of .free-of .ensures .1) (after-place-here .place-here
-    .ensures .1 src l) (after-if1 .if1 .left) (after-expect .expect .ensures .1 .1 src l) (after-expr .expr .ensures .1 .1 src l) (after-expect2
-    .expect2 .ensures .1 .1 src (lies-still l (after-expr .expr .ensures .1 .0 .kept))) (after-node .node .ensures .1 .1))
 
 pub nest-ok : {M : Type 1} (t : ℕ) → cycle.Lts-nest.Closed (nest-cs t .claims) (at nest-rank t) (nest-rank .post) M
 nest-ok t =
@@ -109,19 +96,16 @@ nest-ok t =
     (λ c. bracketed-shut _ (c .before .before .if1 .taken) (c .refuse .ensures .1)) (λ c κs. tt) (λ c κs. omega arith) (λ c κs. omega arith)
     (λ c. omega arith) (λ c κs. pair (omega arith) (pair (past-symbol refl (c .before .expect .ensures)) (omega arith)))
     (λ c κs. let e = c .before .before .before .expr in pair (past-expression refl (e .ensures) (e .kept .0)) (omega arith))
-    (λ c κs. past-symbol refl (c .before .expect2 .ensures)) (λ c. search needs) (nest-returns-2 t)
+    (λ c κs. past-symbol refl (c .before .expect2 .ensures)) (λ c. search needs)
+    (λ c. let node = c .before .before in let expect2 = node .before .before in let expr = expect2 .before .before .before .before in let expect =
+    expr .before .before in let place-here = expect .before .before in let free-of = place-here .before .before in let if1 = free-of .before .before
+    in pair (room-left (left (expect .expect .ensures .1 .0) plus (expr .expr .ensures .1 .0) plus (expect2 .expect2 .ensures .1 .0) less (node .node
+    .ensures .1 .0)) refl) (λ src l. bracketed-read l _ _ (free-of .free-of .ensures .1) (place-here .place-here .ensures .1 src l) (if1 .if1 .left)
+    (expect .expect .ensures .1 .1 src l) (expr .expr .ensures .1 .1 src l) (expect2 .expect2 .ensures .1 .1 src (lies-still l (expr .expr .ensures .1
+    .0 .kept))) (node .node .ensures .1 .1)))
 
 abbrev pub valof-cs : ℕ → Calls cycle.Lts-valof.Claims
 valof-cs t = calls-6 refuse free-of place-here expect (below cmd-rank t) node
-
-valof-returns-2 : (t : ℕ) → cycle.Lts-valof.Need-returns-2 (valof-cs t .claims) (at valof-rank t) (valof-rank .post)
-valof-returns-2 t c =
-    let after-node = c .before .before in let after-cmd = after-node .before .before .before .before in let after-expect = after-cmd .before .before
-    in let after-place-here = after-expect .before .before in let after-free-of = after-place-here .before .before in let after-if1 = after-free-of
-    .before .before in pair
-    (room-left (left (after-expect .expect .ensures .1 .0) plus (after-cmd .cmd .ensures .1 .0) less (after-node .node .ensures .1 .0)) refl)
-    (λ src l. valof-read l _ _ (after-free-of .free-of .ensures .1) (after-place-here .place-here .ensures .1 src l) (after-if1 .if1 .left)
-    (after-expect .expect .ensures .1 .1 src l) (after-cmd .cmd .ensures .1 .1 src l) (after-node .node .ensures .1 .1))
 
 pub valof-ok : {M : Type 1} (t : ℕ) → cycle.Lts-valof.Closed (valof-cs t .claims) (at valof-rank t) (valof-rank .post) M
 valof-ok t =
@@ -129,7 +113,13 @@ valof-ok t =
     (λ c. valof-shut _ (c .before .before .if1 .taken) (c .refuse .ensures .1)) (λ c κs. tt) (λ c κs. omega arith) (λ c κs. omega arith)
     (λ c. omega arith) (λ c κs. pair (omega arith) (past-symbol refl (c .before .expect .ensures)))
     (λ c κs. ready-leaves (c .before .before .before .cmd .ensures .1 .0) (c .before .before .before .cmd .kept .0) refl (past-symbol refl (c .before
-    .before .before .before .before .expect .ensures))) (λ c. search needs) (valof-returns-2 t)
+    .before .before .before .before .expect .ensures)))
+    (λ c. search needs)
+    (λ c. let node = c .before .before in let cmd = node .before .before .before .before in let expect = cmd .before .before in let place-here =
+    expect .before .before in let free-of = place-here .before .before in let if1 = free-of .before .before in pair (room-left (left (expect .expect
+    .ensures .1 .0) plus (cmd .cmd .ensures .1 .0) less (node .node .ensures .1 .0)) refl) (λ src l. valof-read l _ _ (free-of .free-of .ensures .1)
+    (place-here .place-here .ensures .1 src l) (if1 .if1 .left) (expect .expect .ensures .1 .1 src l) (cmd .cmd .ensures .1 .1 src l) (node .node
+    .ensures .1 .1)))
 
 abbrev pub tail-cs : ℕ → Calls cycle.Lts-tail.Claims
 tail-cs t = calls-2 (below call-rank t) (below index-rank t)
@@ -151,39 +141,28 @@ tails-inv s₀ n levels first turns₀ call₀ a₀ s turns call a =
 abbrev tails-turns : cycle.Lts-tails.MeasureT-loop
 tails-turns s₀ n levels first turns₀ call₀ a₀ s turns call a = turns
 
-tails-loop-again : (t : ℕ) → cycle.Lts-tails.Need-loop-again (tails-cs t .claims) (at tails-rank t) (tails-rank .post) tails-inv tails-turns
-tails-loop-again t c =
-    let after-tail = c .before .before in let after-if1 = after-tail .before .before in let after-is-suffix = after-if1 .before in let after-kind-here
-    = after-is-suffix .before in let in-loop = after-kind-here .before .before .before in many-turns _ _ _ _ suffix-next (in-loop .loop .inv)
-    (after-kind-here .kind-here .ensures .1) (sym (after-is-suffix .is-suffix .ensures .1) ∙ after-if1 .if1 .taken) (after-tail .tail .ensures .1)
-    (after-tail .tail .kept .0) (omega arith)
-
-tails-returns : (t : ℕ) → cycle.Lts-tails.Need-returns (tails-cs t .claims) (at tails-rank t) (tails-rank .post) tails-inv tails-turns
-tails-returns t c =
-    let after-is-suffix = c .before in let after-kind-here = after-is-suffix .before in let in-loop = after-kind-here .before .before .before in let
-    after-minus = in-loop .before in many-ends _ _ _ _ suffix-last no-suffix-ended (after-minus .minus .ensures .1) (in-loop .loop .inv)
-    (after-kind-here .kind-here .ensures .1) (sym (after-is-suffix .is-suffix .ensures .1) ∙ c .if1 .left)
-
 pub tails-ok : {M : Type 1} (t : ℕ) → cycle.Lts-tails.Closed (tails-cs t .claims) (at tails-rank t) (tails-rank .post) M
 tails-ok t =
     cycle.Lts-tails.spec (tails-cs t .claims) (at tails-rank t) (tails-rank .post) tails-inv tails-turns (λ c κs. tt)
     (λ c. so-begins (c .before .before .pre .1) suffix-first)
     (λ c κs. ready-leaves (c .before .before .loop .inv .room) (c .before .before .loop .inv .same) refl (c .before .before .before .before .before
-    .pre .1)) (λ c κs. tt) (λ c κs. pair (omega arith) (ready-leaves (c .before .before .before .before .before .before .loop .inv .room) (c .before
-    .before .before .before .before .before .loop .inv .same) refl (c .before .before .before .before .before .before .before .before .before .pre
-    .1))) (λ c. omega arith) (λ c. omega arith) (tails-loop-again t) (λ c. search needs) (tails-returns t) (λ c. search needs)
+    .pre .1))
+    (λ c κs. tt)
+    (λ c κs. pair (omega arith) (ready-leaves (c .before .before .before .before .before .before .loop .inv .room) (c .before .before .before .before
+    .before .before .loop .inv .same) refl (c .before .before .before .before .before .before .before .before .before .pre .1)))
+    (λ c. omega arith) (λ c. omega arith)
+    (λ c. let tail = c .before .before in let if1 = tail .before .before in let is-suffix = if1 .before in let kind-here = is-suffix .before in let
+    in-loop = kind-here .before .before .before in many-turns _ _ _ _ suffix-next (in-loop .loop .inv) (kind-here .kind-here .ensures .1) (sym
+    (is-suffix .is-suffix .ensures .1) ∙ if1 .if1 .taken) (tail .tail .ensures .1) (tail .tail .kept .0) (omega arith))
+    (λ c. search needs)
+    (λ c. let is-suffix = c .before in let kind-here = is-suffix .before in let in-loop = kind-here .before .before .before in let minus = in-loop
+    .before in many-ends _ _ _ _ suffix-last no-suffix-ended (minus .minus .ensures .1) (in-loop .loop .inv) (kind-here .kind-here .ensures .1) (sym
+    (is-suffix .is-suffix .ensures .1) ∙ c .if1 .left))
+    (λ c. search needs)
     (λ c. many-spent _ _ _ _ suffix-last no-suffix-ended (c .before .before .minus .ensures .1) (c .before .loop .inv) (omega arith))
 
 abbrev pub call-cs : ℕ → Calls cycle.Lts-call.Claims
 call-cs t = calls-5 refuse free-of expect (below pass-rank t) close-item
-
-call-returns-2 : (t : ℕ) → cycle.Lts-call.Need-returns-2 (call-cs t .claims) (at call-rank t) (call-rank .post)
-call-returns-2 t c =
-    let after-close-item = c .before .before in let after-pass = after-close-item .before .before .before .before in let after-expect = after-pass
-    .before .before in let after-free-of = after-expect .before .before in let after-if1 = after-free-of .before .before in pair
-    (room-left (left (after-expect .expect .ensures .1 .0) plus (after-pass .pass .ensures .1 .0) less (after-close-item .close-item .ensures .1 .0))
-    refl) (λ src l. arguments-read src _ _ (after-free-of .free-of .ensures .1) (after-if1 .if1 .left) (after-expect .expect .ensures .1 .1 src l)
-    (after-pass .pass .ensures .1 .1 src l) (after-close-item .close-item .ensures .1 .1))
 
 pub call-ok : {M : Type 1} (t : ℕ) → cycle.Lts-call.Closed (call-cs t .claims) (at call-rank t) (call-rank .post) M
 call-ok t =
@@ -191,20 +170,15 @@ call-ok t =
     (λ c. arguments-shut _ (c .before .before .if1 .taken) (c .refuse .ensures .1)) (λ c κs. tt) (λ c κs. omega arith) (λ c. omega arith)
     (λ c κs. pair (omega arith) (past-symbol refl (c .before .expect .ensures)))
     (λ c κs. ready-leaves (c .before .before .before .pass .ensures .1 .0) (c .before .before .before .pass .kept .0) refl (ready-part (c .before
-    .before .before .pass .ensures .0 .1) refl)) (λ c. search needs) (call-returns-2 t)
+    .before .before .pass .ensures .0 .1) refl))
+    (λ c. search needs)
+    (λ c. let close-item = c .before .before in let pass = close-item .before .before .before .before in let expect = pass .before .before in let
+    free-of = expect .before .before in let if1 = free-of .before .before in pair (room-left (left (expect .expect .ensures .1 .0) plus (pass .pass
+    .ensures .1 .0) less (close-item .close-item .ensures .1 .0)) refl) (λ src l. arguments-read src _ _ (free-of .free-of .ensures .1) (if1 .if1
+    .left) (expect .expect .ensures .1 .1 src l) (pass .pass .ensures .1 .1 src l) (close-item .close-item .ensures .1 .1)))
 
 abbrev pub pass-cs : ℕ → Calls cycle.Lts-pass.Claims
 pass-cs t = calls-4 kind-here expect (below arg-rank t) (below also-rank t)
-
-pass-returns-2 : (t : ℕ) → cycle.Lts-pass.Need-returns-2 (pass-cs t .claims) (at pass-rank t) (pass-rank .post)
-pass-returns-2 t c =
-    let after-also = c .before .before .before .before in let after-arg = after-also .before .before .before .before in let after-if1 = after-arg
-    .before .before in let after-kind-here = after-if1 .before in pair
-    (room-left (taken (after-arg .arg .ensures .1 .0) plus (after-also .also .ensures .1 .0) plus (c .expect2 .ensures .1 .0)) refl)
-    (λ src l. (let l₁ = lies-still l (after-arg .arg .ensures .1 .0 .kept) in let l₂ = lies-still l₁ (after-also .also .ensures .1 .0 .kept) in
-    some-arguments src _ (after-kind-here .kind-here .ensures .1 src l) 0 (l .count) (after-if1 .if1 .left) (after-arg .arg .ensures .1 .1 src l)
-    (again (Encodes encodeExpressions) (λ es w h. record { same = h .same }) (after-also .also .ensures .1 .1 src l₁)) (c .expect2 .ensures .1 .1 src
-    l₂)))
 
 pub pass-ok : {M : Type 1} (t : ℕ) → cycle.Lts-pass.Closed (pass-cs t .claims) (at pass-rank t) (pass-rank .post) M
 pass-ok t =
@@ -213,23 +187,19 @@ pass-ok t =
       leaves-less (c .expect .ensures .1 .0) refl,
       λ src l. no-arguments src _ (c .before .before .before .kind-here .ensures .1 src l) (c
           .before .before .if1 .taken) (c .expect .ensures .1 .1 src l),
-    )) (λ c κs. omega arith)
+    ))
+    (λ c κs. omega arith)
     (λ c κs. pair (omega arith) (ready-takes (c .before .before .before .arg .ensures .1 .0) (c .before .before .before .arg .kept .0) (ready-part (c
     .before .before .before .arg .ensures .0 .1) refl)))
     (λ c κs. let e = c .before .before .before .also in pair (past-part refl (e .ensures) (e .kept .0)) (omega arith)) (λ c. search needs)
-    (pass-returns-2 t)
+    (λ c. let also = c .before .before .before .before in let arg = also .before .before .before .before in let if1 = arg .before .before in let
+    kind-here = if1 .before in pair (room-left (taken (arg .arg .ensures .1 .0) plus (also .also .ensures .1 .0) plus (c .expect2 .ensures .1 .0))
+    refl) (λ src l. (let l₁ = lies-still l (arg .arg .ensures .1 .0 .kept) in let l₂ = lies-still l₁ (also .also .ensures .1 .0 .kept) in
+    some-arguments src _ (kind-here .kind-here .ensures .1 src l) 0 (l .count) (if1 .if1 .left) (arg .arg .ensures .1 .1 src l) (again (Encodes
+    encodeExpressions) (λ es w h. record { same = h .same }) (also .also .ensures .1 .1 src l₁)) (c .expect2 .ensures .1 .1 src l₂))))
 
 abbrev pub arg-cs : ℕ → Calls cycle.Lts-arg.Claims
 arg-cs t = calls-4 free-of begin-item (below expr-rank t) set-size
-
-arg-returns : (t : ℕ) → cycle.Lts-arg.Need-returns (arg-cs t .claims) (at arg-rank t) (arg-rank .post)
-arg-returns t c =
-    let after-set-size = c .before .before in let after-expr = after-set-size .before .before .before .before in let after-begin-item = after-expr
-    .before .before .before .before in let after-free-of = after-begin-item .before .before in let start = after-free-of .before .before .before in
-    pair (room-taken (taken (after-begin-item .begin-item .ensures .1 .0) plus (after-expr .expr .ensures .1 .0) plus (after-set-size .set-size
-    .ensures .1 .0)) refl) (λ src l. argument-read src _ _ (after-free-of .free-of .ensures .1) (low (start .pre .1)) (after-begin-item .begin-item
-    .ensures .1 .1) (after-expr .expr .ensures .1 .1 src (lies-still l (after-begin-item .begin-item .ensures .1 .0 .kept))) (after-set-size .set-size
-    .ensures .1 .1))
 
 pub arg-ok : {M : Type 1} (t : ℕ) → cycle.Lts-arg.Closed (arg-cs t .claims) (at arg-rank t) (arg-rank .post) M
 arg-ok t =
@@ -238,7 +208,13 @@ arg-ok t =
     .0) (c .before .before .before .begin-item .ensures .0)) (omega arith)))
     (λ c κs. let expr = c .before .before .before in let begin-item = expr .before .before .before .before in let free-of = begin-item .before .before
     in pair (past-expression refl (expr .expr .ensures) (expr .expr .kept .0)) (item-low (free-of .free-of .ensures .1) (ready-part (begin-item
-    .begin-item .ensures .0) refl))) (λ c. search needs) (arg-returns t)
+    .begin-item .ensures .0) refl)))
+    (λ c. search needs)
+    (λ c. let set-size = c .before .before in let expr = set-size .before .before .before .before in let begin-item = expr .before .before .before
+    .before in let free-of = begin-item .before .before in let start = free-of .before .before .before in pair (room-taken (taken (begin-item
+    .begin-item .ensures .1 .0) plus (expr .expr .ensures .1 .0) plus (set-size .set-size .ensures .1 .0)) refl) (λ src l. argument-read src _ _
+    (free-of .free-of .ensures .1) (low (start .pre .1)) (begin-item .begin-item .ensures .1 .1) (expr .expr .ensures .1 .1 src (lies-still l
+    (begin-item .begin-item .ensures .1 .0 .kept))) (set-size .set-size .ensures .1 .1)))
 
 abbrev pub also-cs : ℕ → Calls cycle.Lts-also.Claims
 also-cs t = calls-3 kind-here expect (below arg-rank t)
@@ -251,24 +227,22 @@ also-inv s₀ n levels turns₀ count₀ a₀ s turns count a =
 abbrev also-turns : cycle.Lts-also.MeasureT-loop
 also-turns s₀ n levels turns₀ count₀ a₀ s turns count a = turns
 
-also-loop-again : (t : ℕ) → cycle.Lts-also.Need-loop-again (also-cs t .claims) (at also-rank t) (also-rank .post) also-inv also-turns
-also-loop-again t c =
-    let after-arg = c .before .before in let after-expect = after-arg .before .before in let after-if1 = after-expect .before .before in let
-    after-kind-here = after-if1 .before in let in-loop = after-kind-here .before .before .before in pair
-    (many-turns _ _ _ _ expression-next (in-loop .loop .inv .0) (after-kind-here .kind-here .ensures .1) (eq-eqb _ _ (after-if1 .if1 .left)) (at-any
-    (further-reads _ (after-expect .expect .ensures .1) (after-arg .arg .ensures .1))) (after-arg .arg .kept .0) (omega arith))
-    (omega (arith, in-loop .loop .inv .1))
-
 pub also-ok : {M : Type 1} (t : ℕ) → cycle.Lts-also.Closed (also-cs t .claims) (at also-rank t) (also-rank .post) M
 also-ok t =
     cycle.Lts-also.spec (also-cs t .claims) (at also-rank t) (also-rank .post) also-inv also-turns
     (λ c. (so-begins (c .before .pre .1) expression-first, refl))
     (λ c κs. ready-leaves (c .before .before .loop .inv .0 .room) (c .before .before .loop .inv .0 .same) refl (c .before .before .before .before .pre
-    .1)) (λ c. search needs) (λ c. many-ends _ _ _ _ expression-last no-expression-counted refl (c .before .before .before .before .loop .inv .0) (c
-    .before .kind-here .ensures .1) (ne-eqb _ _ (c .if1 .taken))) (λ c κs. pair (c .before .before .kind-here .ensures .0) (omega arith))
+    .1))
+    (λ c. search needs)
+    (λ c. many-ends _ _ _ _ expression-last no-expression-counted refl (c .before .before .before .before .loop .inv .0) (c .before .kind-here
+    .ensures .1) (ne-eqb _ _ (c .if1 .taken)))
+    (λ c κs. pair (c .before .before .kind-here .ensures .0) (omega arith))
     (λ c κs. pair (omega arith) (past-symbol refl (c .before .expect .ensures))) (λ c. omega arith) (λ c. omega arith) (λ c. omega arith)
-    (also-loop-again t) (λ c. search needs)
-    (λ c. many-spent _ _ _ _ expression-last no-expression-counted refl (c .before .loop .inv .0) (omega arith))
+    (λ c. let arg = c .before .before in let expect = arg .before .before in let if1 = expect .before .before in let kind-here = if1 .before in let
+    in-loop = kind-here .before .before .before in pair (many-turns _ _ _ _ expression-next (in-loop .loop .inv .0) (kind-here .kind-here .ensures .1)
+    (eq-eqb _ _ (if1 .if1 .left)) (at-any (further-reads _ (expect .expect .ensures .1) (arg .arg .ensures .1))) (arg .arg .kept .0) (omega arith))
+    (omega (arith, in-loop .loop .inv .1)))
+    (λ c. search needs) (λ c. many-spent _ _ _ _ expression-last no-expression-counted refl (c .before .loop .inv .0) (omega arith))
 
 abbrev pub rest-cs : ℕ → Calls cycle.Lts-rest.Claims
 rest-cs t = calls-2 expect (below arg-rank t)
@@ -280,57 +254,46 @@ rest-inv s₀ n levels number left₀ a₀ s left a =
 abbrev rest-turns : cycle.Lts-rest.MeasureT-loop
 rest-turns s₀ n levels number left₀ a₀ s left a = left
 
-rest-loop-again : (t : ℕ) → cycle.Lts-rest.Need-loop-again (rest-cs t .claims) (at rest-rank t) (rest-rank .post) rest-inv rest-turns
-rest-loop-again t c =
-    let after-arg = c .before .before in let after-expect = after-arg .before .before in let in-loop = after-expect .before .before .before in let
-    start = in-loop .before .before in so-turns (in-loop .loop .inv) (C.further (readers (within (start .args .levels))) (in-loop .loop .left - 1))
-    value-next (further-reads _ (after-expect .expect .ensures .1) (after-arg .arg .ensures .1)) (after-arg .arg .kept .0)
-    (λ src l at free e. value-turn (start .args .levels) src (in-loop .loop .left) at (omega arith))
-
 pub rest-ok : {M : Type 1} (t : ℕ) → cycle.Lts-rest.Closed (rest-cs t .claims) (at rest-rank t) (rest-rank .post) M
 rest-ok t =
     cycle.Lts-rest.spec (rest-cs t .claims) (at rest-rank t) (rest-rank .post) rest-inv rest-turns (λ c. so-begins (c .before .pre .1) before-first)
     (λ c κs. pair (ready-leaves (c .before .before .loop .inv .room) (c .before .before .loop .inv .same) refl (c .before .before .before .before .pre
-    .1)) (omega arith)) (λ c κs. pair (omega arith) (past-symbol refl (c .before .expect .ensures))) (λ c. omega arith) (λ c. omega arith)
-    (rest-loop-again t) (λ c. search needs) (λ c. so-ends (c .before .loop .inv) T.noExpressions before-last (wordless no-expression-words) (λ src l
-    at free e. value-last (c .before .before .before .args .levels) src _ at (omega arith)))
+    .1)) (omega arith))
+    (λ c κs. pair (omega arith) (past-symbol refl (c .before .expect .ensures))) (λ c. omega arith) (λ c. omega arith)
+    (λ c. let arg = c .before .before in let expect = arg .before .before in let in-loop = expect .before .before .before in let start = in-loop
+    .before .before in so-turns (in-loop .loop .inv) (C.further (readers (within (start .args .levels))) (in-loop .loop .left - 1)) value-next
+    (further-reads _ (expect .expect .ensures .1) (arg .arg .ensures .1)) (arg .arg .kept .0) (λ src l at free e. value-turn (start .args .levels) src
+    (in-loop .loop .left) at (omega arith)))
+    (λ c. search needs)
+    (λ c. so-ends (c .before .loop .inv) T.noExpressions before-last (wordless no-expression-words) (λ src l at free e. value-last (c .before .before
+    .before .args .levels) src _ at (omega arith)))
 
 abbrev pub index-cs : ℕ → Calls cycle.Lts-index.Claims
 index-cs t = calls-4 free-of expect (below key-rank t) close-item
-
-index-returns : (t : ℕ) → cycle.Lts-index.Need-returns (index-cs t .claims) (at index-rank t) (index-rank .post)
-index-returns t c =
-    let after-close-item = c .before .before in let after-key = after-close-item .before .before .before .before in let after-expect = after-key
-    .before .before in let after-free-of = after-expect .before .before in pair
-    (room-left (left (after-expect .expect .ensures .1 .0) plus (after-key .key .ensures .1 .0) less (after-close-item .close-item .ensures .1 .0))
-    refl) (λ src l. index-read src _ _ (after-free-of .free-of .ensures .1) (after-expect .expect .ensures .1 .1 src l) (after-key .key .ensures .1 .1
-    src l) (after-close-item .close-item .ensures .1 .1))
 
 pub index-ok : {M : Type 1} (t : ℕ) → cycle.Lts-index.Closed (index-cs t .claims) (at index-rank t) (index-rank .post) M
 index-ok t =
     cycle.Lts-index.spec (index-cs t .claims) (at index-rank t) (index-rank .post) (λ c κs. tt) (λ c κs. omega arith)
     (λ c κs. pair (omega arith) (past-symbol refl (c .before .expect .ensures)))
     (λ c κs. ready-leaves (c .before .before .before .key .ensures .1 .0) (c .before .before .before .key .kept .0) refl (past-symbol refl (c .before
-    .before .before .before .before .expect .ensures))) (λ c. search needs) (index-returns t)
+    .before .before .before .before .expect .ensures)))
+    (λ c. search needs)
+    (λ c. let close-item = c .before .before in let key = close-item .before .before .before .before in let expect = key .before .before in let
+    free-of = expect .before .before in pair (room-left (left (expect .expect .ensures .1 .0) plus (key .key .ensures .1 .0) less (close-item
+    .close-item .ensures .1 .0)) refl) (λ src l. index-read src _ _ (free-of .free-of .ensures .1) (expect .expect .ensures .1 .1 src l) (key .key
+    .ensures .1 .1 src l) (close-item .close-item .ensures .1 .1)))
 
 abbrev pub key-cs : ℕ → Calls cycle.Lts-key.Claims
 key-cs t = calls-4 kind-here is-monadic (below monad-rank t) (below unit-rank t)
-
-key-returns : (t : ℕ) → cycle.Lts-key.Need-returns (key-cs t .claims) (at key-rank t) (key-rank .post)
-key-returns t c =
-    let after-monad = c .before .before in let after-if1 = after-monad .before .before in let after-is-monadic = after-if1 .before in let
-    after-kind-here = after-is-monadic .before in subscript-monadic _ (after-kind-here .kind-here .ensures .1)
-    (after-is-monadic .is-monadic .ensures .1) (after-if1 .if1 .taken) (after-monad .monad .ensures .1)
-
-key-returns-2 : (t : ℕ) → cycle.Lts-key.Need-returns-2 (key-cs t .claims) (at key-rank t) (key-rank .post)
-key-returns-2 t c =
-    let after-unit = c .before .before in let after-if1 = after-unit .before .before in let after-is-monadic = after-if1 .before in let
-    after-kind-here = after-is-monadic .before in subscript-primary _ (after-kind-here .kind-here .ensures .1)
-    (after-is-monadic .is-monadic .ensures .1) (after-if1 .if1 .left) (after-unit .unit .ensures .1)
 
 pub key-ok : {M : Type 1} (t : ℕ) → cycle.Lts-key.Closed (key-cs t .claims) (at key-rank t) (key-rank .post) M
 key-ok t =
     cycle.Lts-key.spec (key-cs t .claims) (at key-rank t) (key-rank .post) (λ c κs. omega arith) (λ c κs. tt)
     (λ c κs. let if1 = c .before in let is-monadic = if1 .before in let start = is-monadic .before .before .before .before in pair (omega arith) (pair
-    (start .pre .1) (monadic-positive _ (is-monadic .is-monadic .ensures .1) (if1 .if1 .taken)))) (λ c κs. omega arith) (λ c. search needs)
-    (key-returns t) (λ c. search needs) (key-returns-2 t)
+    (start .pre .1) (monadic-positive _ (is-monadic .is-monadic .ensures .1) (if1 .if1 .taken))))
+    (λ c κs. omega arith) (λ c. search needs)
+    (λ c. let monad = c .before .before in let if1 = monad .before .before in let is-monadic = if1 .before in let kind-here = is-monadic .before in
+    subscript-monadic _ (kind-here .kind-here .ensures .1) (is-monadic .is-monadic .ensures .1) (if1 .if1 .taken) (monad .monad .ensures .1))
+    (λ c. search needs)
+    (λ c. let unit = c .before .before in let if1 = unit .before .before in let is-monadic = if1 .before in let kind-here = is-monadic .before in
+    subscript-primary _ (kind-here .kind-here .ensures .1) (is-monadic .is-monadic .ensures .1) (if1 .if1 .left) (unit .unit .ensures .1))
