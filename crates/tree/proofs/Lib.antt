@@ -5,6 +5,7 @@ pub mod ListEnd
 pub mod Helpers
 pub mod Rooms
 pub mod Symbols
+pub mod Wholes
 pub mod Loops
 pub mod Classes
 pub mod Leaves
