@@ -168,3 +168,9 @@ freed r e k = e ∙ ap (λ (x : ℕ). freeOf x r) k
 
 pub measured : (r : State) (lo : ℕ) {size free z z′ : ℕ} → size ≡ free - lo → free ≡ freeOf z′ r → z′ ≡ z → size ≡ freeOf z r - lo
 measured r lo q e k = q ∙ ap (λ (y : ℕ). y - lo) (freed r e k)
+
+-- the size of what stands between two states
+pub for-size :
+    (r r′ : State) {value free free′ z z′ : ℕ} → value ≡ free - free′ → free ≡ freeOf z′ r → free′ ≡ freeOf z′ r′ → z′ ≡ z
+    → value ≡ freeOf z r - freeOf z r′
+for-size r r′ v e e′ k = let a = freed r e k in let b = freed r′ e′ k in omega arith

@@ -2,7 +2,7 @@
 -- The room that the calls leave together is counted along with it.
 use Rattle.laws.proofs.Basics.{ℕ, _+_, _≡_, List, true, leb}
 use Rattle.language.specs.Reader.{Source, Reader}
-use Rattle.tree.specs.Reads.{HoldsSymbols, LeavesRoom, TakesRoom, Follows, Reading, ReadingAt, KindHere}
+use Rattle.tree.specs.Reads.{HoldsSymbols, LeavesRoom, TakesRoom, Reading, ReadingAt}
 use Rattle.tree.proofs.Choices.{KindsHere}
 use Rattle.tree.proofs.Rooms.{Moves, left, taken, _plus_, _less_, room-left, room-taken}
 use Rattle.tree.proofs.Symbols.{lies-still}
@@ -17,9 +17,8 @@ module _ {s s′ : List ℕ} {n : ℕ} {r r′ : State} {k : ℕ} {F : Source �
   -- the first call, which reads or writes
   infixl 5 _from_
   pub _from_ :
-      {A : Type 0} {read : Reader A} {Says : A → List ℕ → Type 0}
-      → ((src : Source) → HoldsSymbols src n s → Follows (read src) Says s s′ r r′ → F src) → Reading k read Says s s′ n r r′
-      → Whole k 0 s s′ n r r′ F
+      {G : Source → Type 0} → ((src : Source) → HoldsSymbols src n s → G src → F src)
+      → LeavesRoom k s s′ n r r′ × ((src : Source) → HoldsSymbols src n s → G src) → Whole k 0 s s′ n r r′ F
   law from d = record { room = left (d .0); holds = λ src l. law src l (d .1 src l) }
 
   infixl 5 _writing_
@@ -28,16 +27,15 @@ module _ {s s′ : List ℕ} {n : ℕ} {r r′ : State} {k : ℕ} {F : Source �
 
   module _ {gain loss : ℕ} {s₀ : List ℕ} {r₀ : State} where
     -- the next one: it reads, and leaves room or takes some; or it writes, and takes room or leaves it
-    module _ {A : Type 0} {read : Reader A} {Says : A → List ℕ → Type 0}
-        (f : Whole gain loss s₀ s n r₀ r (λ src. Follows (read src) Says s s′ r r′ → F src)) where
+    module _ {G : Source → Type 0} (f : Whole gain loss s₀ s n r₀ r (λ src. G src → F src)) where
       infixl 5 _with_
-      pub _with_ : Reading k read Says s s′ n r r′ → Whole (gain + k) (loss + 0) s₀ s′ n r₀ r′ F
+      pub _with_ :
+          LeavesRoom k s s′ n r r′ × ((src : Source) → HoldsSymbols src n s → G src) → Whole (gain + k) (loss + 0) s₀ s′ n r₀ r′ F
       _with_ d = record { room = f .room plus d .0; holds = λ src l. f .holds src l (d .1 src (lies-still l (f .room .kept))) }
 
       infixl 5 _taking_
       pub _taking_ :
-          TakesRoom k s s′ n r r′ × ((src : Source) → HoldsSymbols src n s → Follows (read src) Says s s′ r r′)
-          → Whole (gain + 0) (loss + k) s₀ s′ n r₀ r′ F
+          TakesRoom k s s′ n r r′ × ((src : Source) → HoldsSymbols src n s → G src) → Whole (gain + 0) (loss + k) s₀ s′ n r₀ r′ F
       _taking_ d = record { room = f .room less d .0; holds = λ src l. f .holds src l (d .1 src (lies-still l (f .room .kept))) }
 
     module _ {X : Type 0} (f : Whole gain loss s₀ s n r₀ r (λ src. X → F src)) where

@@ -14,12 +14,13 @@ use Rattle.tree.proofs.Lets.{values-read, one-name, vector-is, vector-n
 use Rattle.tree.proofs.Lists.{Before}
 use Rattle.tree.proofs.Loops.{SoFar, before-first, before-next, before-last, wordless, so-begins, many-turns, many-ends, many-spent}
 use Rattle.tree.proofs.Loops.{list-spents, list-ends, list-semicolon-ends, list-goes-on}
-use Rattle.tree.proofs.Rooms.{past-symbol, past-part, past-expression, left, taken, room-left, room-taken, takes-more, takes-none, ready-leaves, ready-takes, _plus_, _less_}
+use Rattle.tree.proofs.Rooms.{for-size, past-symbol, past-part, past-expression, left, taken, room-left, room-taken, takes-more, takes-none, ready-leaves, ready-takes, _plus_, _less_}
 use Rattle.tree.proofs.Rooms.{ready-part, item-low, size-small, freed, measured}
 use Rattle.tree.proofs.Steps.{pair, goes-on, adds-on, _then_}
 use Rattle.tree.proofs.Symbols.{lies-still}
 use Rattle.tree.specs.Encoding.{encodeCommands, encodeLocals}
 use Rattle.tree.specs.Reads.{freeOf}
+use Rattle.tree.proofs.Wholes.{leaves, takes, _from_, _writing_, _with_, _taking_, _adding_, _setting_}
 use cycle.Proof.Ranks.{Calls, a-name, arg-rank, at, begin-item, below, block-rank, calls-2, calls-4, calls-6, calls-7, calls-8, calls-9, cmd-rank}
 use cycle.Proof.Ranks.{expect, expr-rank, free-of, further-names, init-rank, is-vector, item-rank, kind-here, lets-rank, list-rank, local-rank, minus}
 use cycle.Proof.Ranks.{node, optional, optional-by, pick-rank, refuse, rest-rank, set-size, step-rank, till-rank, vector}
@@ -61,22 +62,12 @@ step-ok t =
     let minus = expect4 .before .before in let free-of3 = minus .before in let free-of2 = free-of3 .before .before in
     let optional-by = free-of2 .before .before .before .before in let expr2 = optional-by .before .before .before .before in
     let expect3 = expr2 .before .before in let expr = expect3 .before .before .before .before in let expect2 = expr .before .before in
-    let a-name = expect2 .before .before .before .before in let expect = a-name .before .before in let free-of = expect .before .before in pair
-    (room-left (left (expect .expect .ensures .1 .0) plus (a-name .a-name .ensures .1 .0) plus (expect2 .expect2 .ensures .1 .0) plus
-    (expr .expr .ensures .1 .0) plus (expect3 .expect3 .ensures .1 .0) plus (expr2 .expr2 .ensures .1 .0) plus
-    (optional-by .optional-by .ensures .1 .0) plus (expect4 .expect4 .ensures .1 .0) plus (cmd .cmd .ensures .1 .0) less (node .node .ensures .1 .0))
-    refl) (λ src l. (let l₂ = lies-still l (a-name .a-name .ensures .1 .0 .kept) in let l₄ = lies-still l₂ (expr .expr .ensures .1 .0 .kept) in let l₆
-    = lies-still l₄ (expr2 .expr2 .ensures .1 .0 .kept) in let l₇ = lies-still l₆ (optional-by .optional-by .ensures .1 .0 .kept) in for-read l _ _
-    (free-of .free-of .ensures .1) (expect .expect .ensures .1 .1 src l) (a-name .a-name .ensures .1 .1 src l) (expect2 .expect2 .ensures .1 .1 src
-    l₂) (expr .expr .ensures .1 .1 src l₂) (expect3 .expect3 .ensures .1 .1 src l₄) (expr2 .expr2 .ensures .1 .1 src l₄)
-    (optional-by .optional-by .ensures .1 .1 src l₆) (expect4 .expect4 .ensures .1 .1 src l₇) (cmd .cmd .ensures .1 .1 src l₇) (omega (
-      arith,
-      minus .minus .ensures .1,
-      freed _ (free-of2 .free-of2 .ensures .1) (optional-by .optional-by .kept .0 ∙ expr2 .expr2 .kept .0 ∙
-          expr .expr .kept .0 ∙ a-name .a-name .kept .0),
-      freed _ (free-of3 .free-of3 .ensures .1) (optional-by .optional-by .kept .0 ∙
-          expr2 .expr2 .kept .0 ∙ expr .expr .kept .0 ∙ a-name .a-name .kept .0),
-    )) (node .node .ensures .1 .1))))
+    let a-name = expect2 .before .before .before .before in let expect = a-name .before .before in let free-of = expect .before .before in let same =
+    optional-by .optional-by .kept .0 ∙ expr2 .expr2 .kept .0 ∙ expr .expr .kept .0 ∙ a-name .a-name .kept .0 in leaves ((λ src l a b c d f g h i j.
+    for-read l _ _ (free-of .free-of .ensures .1) a b c d f g h i j (for-size _ _ (minus .minus .ensures .1) (free-of2 .free-of2 .ensures .1)
+    (free-of3 .free-of3 .ensures .1) same)) from expect .expect .ensures .1 with a-name .a-name .ensures .1 with expect2 .expect2 .ensures .1 with
+    expr .expr .ensures .1 with expect3 .expect3 .ensures .1 with expr2 .expr2 .ensures .1 with optional-by .optional-by .ensures .1 with
+    expect4 .expect4 .ensures .1 with cmd .cmd .ensures .1 adding node .node .ensures .1) refl)
 
 abbrev pub pick-cs : ℕ → Calls cycle.Lts-pick.Claims
 pick-cs t = calls-7 free-of expect (below expr-rank t) minus (below item-rank t) (below list-rank t) node
@@ -102,16 +93,13 @@ pick-ok t =
     (λ c. let node = c .before .before in let at-list = node .before .before .before .before in let item = at-list .before .before .before .before in
     let expr = item .before .before .before .before .before .before .before .before .before .before .before in node .node .kept .0 ∙
     at-list .list .kept .0 ∙ item .item .kept .0 ∙ expr .expr .kept .0)
-    (λ c. let node = c .before .before in let list = node .before .before .before .before in let item = list .before .before .before .before in
+    (λ c. let node = c .before .before in let at-list = node .before .before .before .before in let item = at-list .before .before .before .before in
     let expect3 = item .before .before in let expect2 = expect3 .before .before in let minus = expect2 .before .before in
     let free-of2 = minus .before in let expr = free-of2 .before .before .before .before in let expect = expr .before .before in
-    let free-of = expect .before .before in pair (room-left (left (expect .expect .ensures .1 .0) plus (expr .expr .ensures .1 .0) plus
-    (expect2 .expect2 .ensures .1 .0) plus (expect3 .expect3 .ensures .1 .0) less (item .item .ensures .1 .0) plus (list .list .ensures .1 .0) less
-    (node .node .ensures .1 .0)) refl) (λ src l. (let l₂ = lies-still l (expr .expr .ensures .1 .0 .kept) in let l₃ = lies-still l₂
-    (item .item .ensures .1 .0 .kept) in switchon-read l _ _ (free-of .free-of .ensures .1) (expect .expect .ensures .1 .1 src l)
-    (expr .expr .ensures .1 .1 src l) (expect2 .expect2 .ensures .1 .1 src l₂) (expect3 .expect3 .ensures .1 .1 src l₂) (item .item .ensures .1 .1 src
-    l₂) (list .list .ensures .1 .1 src l₃) (measured _ _ (minus .minus .ensures .1) (free-of2 .free-of2 .ensures .1) (expr .expr .kept .0))
-    (node .node .ensures .1 .1))))
+    let free-of = expect .before .before in leaves ((λ src l a b c d f g. switchon-read l _ _ (free-of .free-of .ensures .1) a b c d f g (measured _ _
+    (minus .minus .ensures .1) (free-of2 .free-of2 .ensures .1) (expr .expr .kept .0))) from expect .expect .ensures .1 with expr .expr .ensures .1
+    with expect2 .expect2 .ensures .1 with expect3 .expect3 .ensures .1 taking item .item .ensures .1 with at-list .list .ensures .1 adding
+    node .node .ensures .1) refl)
 
 abbrev pub item-cs : ℕ → Calls cycle.Lts-item.Claims
 item-cs t = calls-4 free-of begin-item (below cmd-rank t) set-size
@@ -126,10 +114,9 @@ item-ok t =
     (ready-part (begin-item .begin-item .ensures .0) refl)))
     (λ c. search needs)
     (λ c. let set-size = c .before .before in let cmd = set-size .before .before .before .before in
-    let begin-item = cmd .before .before .before .before in let free-of = begin-item .before .before in let start = free-of .before .before .before in
-    pair (room-taken (taken (begin-item .begin-item .ensures .1 .0) plus (cmd .cmd .ensures .1 .0) plus (set-size .set-size .ensures .1 .0)) refl) (λ
-    src l. listed-read src _ _ (free-of .free-of .ensures .1) (low (start .pre .1)) (begin-item .begin-item .ensures .1 .1) (cmd .cmd .ensures .1 .1
-    src (lies-still l (begin-item .begin-item .ensures .1 .0 .kept))) (set-size .set-size .ensures .1 .1)))
+    let begin-item = cmd .before .before .before .before in let free-of = begin-item .before .before in takes ((λ src l. listed-read src _ _
+    (free-of .free-of .ensures .1) (low (begin-item .begin-item .ensures .0))) writing begin-item .begin-item .ensures .1 with cmd .cmd .ensures .1
+    setting set-size .set-size .ensures .1) refl)
 
 abbrev pub list-cs : ℕ → Calls cycle.Lts-list.Claims
 list-cs t = calls-4 kind-here expect (below item-rank t) refuse
@@ -200,10 +187,9 @@ block-ok t =
     (λ c. search needs)
     (λ c. let node = c .before .before in let till = node .before .before .before .before in let minus = till .before .before in
     let free-of2 = minus .before in let lets = free-of2 .before .before .before .before in let expect = lets .before .before in
-    let free-of = expect .before .before in pair (room-left (left (expect .expect .ensures .1 .0) plus (lets .lets .ensures .1 .0) plus
-    (till .till .ensures .1 .0) less (node .node .ensures .1 .0)) refl) (λ src l. (let l₂ = lies-still l (lets .lets .ensures .1 .0 .kept) in
-    block-read l _ _ (free-of .free-of .ensures .1) (expect .expect .ensures .1 .1 src l) (lets .lets .ensures .1 .1 src l) (till .till .ensures .1 .1
-    src l₂) (measured _ _ (minus .minus .ensures .1) (free-of2 .free-of2 .ensures .1) (lets .lets .kept .0)) (node .node .ensures .1 .1))))
+    let free-of = expect .before .before in leaves ((λ src l a b c. block-read l _ _ (free-of .free-of .ensures .1) a b c (measured _ _
+    (minus .minus .ensures .1) (free-of2 .free-of2 .ensures .1) (lets .lets .kept .0))) from expect .expect .ensures .1 with lets .lets .ensures .1
+    with till .till .ensures .1 adding node .node .ensures .1) refl)
 
 abbrev pub lets-cs : ℕ → Calls cycle.Lts-lets.Claims
 lets-cs t = calls-2 kind-here (below local-rank t)

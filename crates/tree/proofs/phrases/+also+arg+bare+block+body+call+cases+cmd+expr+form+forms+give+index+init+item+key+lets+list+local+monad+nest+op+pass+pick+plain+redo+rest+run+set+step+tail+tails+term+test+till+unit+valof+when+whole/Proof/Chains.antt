@@ -13,10 +13,11 @@ use Rattle.tree.proofs.Helpers.{low-past}
 use Rattle.tree.proofs.Lists.{Before}
 use Rattle.tree.proofs.Loops.{SoFar, before-first, before-next, before-last, wordless, so-begins, many-turns, many-ends, many-spent}
 use Rattle.tree.proofs.Readers.{monadic-read, operation-read}
-use Rattle.tree.proofs.Rooms.{past-symbol, past-expression, left, room-left, ready-leaves, ready-takes, _plus_, _less_, item-low, size-small, measured}
+use Rattle.tree.proofs.Rooms.{past-symbol, past-expression, ready-leaves, ready-takes, item-low, size-small, measured}
 use Rattle.tree.proofs.Steps.{pair, triple}
 use Rattle.tree.proofs.Symbols.{lies-still}
 use Rattle.tree.specs.Encoding.{encodeOperations}
+use Rattle.tree.proofs.Wholes.{leaves, of-kind, _from_, _with_, _adding_, _setting_}
 use cycle.Proof.Ranks.{Calls, at, begin-item, below, binding-of, calls-12, calls-4, calls-5, calls-7, expect, expr-rank, free-of, further-most}
 use cycle.Proof.Ranks.{is-monadic, kind-here, minus, monad-rank, node, op-rank, place-here, place-of, reach-of, refuse, right-of, run-rank, set-size}
 use cycle.Proof.Ranks.{term-rank, whole-rank}
@@ -39,10 +40,9 @@ expr-ok t =
     (λ c κs. tt) (λ c. omega arith) (λ c κs. omega arith)
     (λ c κs. let e = c .before .before .before .expr2 in past-expression refl (e .ensures) (e .kept .0)) (λ c κs. tt) (λ c. search needs)
     (λ c. let binding-of = c .before in let kind-here2 = binding-of .before in let expr2 = kind-here2 .before .before .before .before in
-    let if2 = expr2 .before .before .before .before in let if1 = if2 .before in let start = if1 .before .before in pair (expr2 .expr2 .ensures .1 .0)
-    (λ src l. (let l₁ = lies-still l (expr2 .expr2 .ensures .1 .0 .kept) in expression-one l₁ 0 _ _ (if1 .if1 .left) (if2 .if2 .left)
-    (start .pre .1 .1) (kind-here2 .kind-here2 .ensures .1 src l₁) (expr2 .expr2 .ensures .1 .1 src l) (λ z. c .if4 .taken
-    (binding-of .binding-of .ensures .1 ∙ z)))))
+    let if2 = expr2 .before .before .before .before in let if1 = if2 .before in let start = if1 .before .before in leaves ((λ src l d. let l₁ =
+    lies-still l (expr2 .expr2 .ensures .1 .0 .kept) in expression-one l₁ 0 _ _ (if1 .if1 .left) (if2 .if2 .left) (start .pre .1 .1)
+    (kind-here2 .kind-here2 .ensures .1 src l₁) d (λ z. c .if4 .taken (binding-of .binding-of .ensures .1 ∙ z))) from expr2 .expr2 .ensures .1) refl)
     (λ c κs. tt) (λ c κs. tt) (λ c κs. c .before .before .before .before .before .before .kind-here2 .ensures .0) (λ c κs. omega arith)
     (λ c κs. let place-of = c .before .before in let if4 = place-of .before .before .before .before .before in let binding-of = if4 .before in
     let if1 = binding-of .before .before .before .before .before .before .before .before .before .before in pair (omega arith) (triple
@@ -72,13 +72,12 @@ expr-ok t =
     let right-of = op .before .before in let place-of = right-of .before in let minus = place-of .before .before in let free-of2 = minus .before in
     let if4 = free-of2 .before .before in let binding-of = if4 .before in let kind-here2 = binding-of .before in
     let expr2 = kind-here2 .before .before .before .before in let free-of = expr2 .before .before in let if2 = free-of .before .before in
-    let if1 = if2 .before in let start = if1 .before .before in pair (room-left (left (expr2 .expr2 .ensures .1 .0) plus (op .op .ensures .1 .0) plus
-    (run .run .ensures .1 .0) less (node .node .ensures .1 .0)) refl) (λ src l. (let l₁ = lies-still l (expr2 .expr2 .ensures .1 .0 .kept) in let l₂ =
-    lies-still l₁ (op .op .ensures .1 .0 .kept) in expression-more l₁ _ _ _ (if1 .if1 .left) (if2 .if2 .left) (start .pre .1 .1)
-    (kind-here2 .kind-here2 .ensures .1 src l₁) (expr2 .expr2 .ensures .1 .1 src l) (right-of .right-of .ensures .1 .0) (sym
-    (binding-of .binding-of .ensures .1) ∙ if4 .if4 .left) (free-of .free-of .ensures .1) (measured _ _ (minus .minus .ensures .1)
-    (free-of2 .free-of2 .ensures .1) (expr2 .expr2 .kept .0)) (place-of .place-of .ensures .1) (op .op .ensures .1 .1 src l₁
-    (kind-here2 .kind-here2 .ensures .1 src l₁)) (run .run .ensures .1 .1 src l₂) (node .node .ensures .1 .1))))
+    let if1 = if2 .before in let start = if1 .before .before in leaves ((λ src l d. let l₁ = lies-still l (expr2 .expr2 .ensures .1 .0 .kept) in
+    expression-more l₁ _ _ _ (if1 .if1 .left) (if2 .if2 .left) (start .pre .1 .1) (kind-here2 .kind-here2 .ensures .1 src l₁) d
+    (right-of .right-of .ensures .1 .0) (sym (binding-of .binding-of .ensures .1) ∙ if4 .if4 .left) (free-of .free-of .ensures .1) (measured _ _
+    (minus .minus .ensures .1) (free-of2 .free-of2 .ensures .1) (expr2 .expr2 .kept .0)) (place-of .place-of .ensures .1)) from
+    expr2 .expr2 .ensures .1 with of-kind (kind-here2 .kind-here2 .ensures .1) (op .op .ensures .1) with run .run .ensures .1 adding
+    node .node .ensures .1) refl)
 
 abbrev pub op-cs : ℕ → Calls cycle.Lts-op.Claims
 op-cs t = calls-5 free-of expect begin-item (below expr-rank t) set-size
@@ -94,11 +93,10 @@ op-ok t =
     (free-of .free-of .ensures .1) (expect .expect .ensures .0 .0)))
     (λ c. search needs)
     (λ c. let set-size = c .before .before in let expr = set-size .before .before .before .before in
-    let begin-item = expr .before .before .before .before in let expect = begin-item .before .before in let free-of = expect .before .before in
-    let start = free-of .before .before .before in pair (room-left (left (expect .expect .ensures .1 .0) less (begin-item .begin-item .ensures .1 .0)
-    plus (expr .expr .ensures .1 .0) plus (set-size .set-size .ensures .1 .0)) refl) (λ src l k. operation-read src _ _ (free-of .free-of .ensures .1)
-    _ (low-past (start .pre .1 .0) (expect .expect .ensures .1 .0)) k (expect .expect .ensures .1 .1 src l) (begin-item .begin-item .ensures .1 .1)
-    (expr .expr .ensures .1 .1 src (lies-still l (begin-item .begin-item .ensures .1 .0 .kept))) (set-size .set-size .ensures .1 .1)))
+    let begin-item = expr .before .before .before .before in let expect = begin-item .before .before in let free-of = expect .before .before in leaves
+    ((λ src l w x y z k. operation-read src _ _ (free-of .free-of .ensures .1) _ (low-past (expect .expect .ensures .0 .0)
+    (expect .expect .ensures .1 .0)) k w x y z) from expect .expect .ensures .1 adding begin-item .begin-item .ensures .1 with expr .expr .ensures .1
+    setting set-size .set-size .ensures .1) refl)
 
 abbrev pub run-cs : ℕ → Calls cycle.Lts-run.Claims
 run-cs t = calls-4 further-most kind-here binding-of (below op-rank t)
@@ -161,7 +159,6 @@ monad-ok t =
     (λ c. search needs)
     (λ c. let node = c .before .before in let expr = node .before .before .before .before in let reach-of = expr .before in
     let expect = reach-of .before .before in let place-here = expect .before .before in let free-of = place-here .before .before in
-    let if1 = free-of .before .before in let start = if1 .before .before in pair (room-left (left (expect .expect .ensures .1 .0) plus
-    (expr .expr .ensures .1 .0) less (node .node .ensures .1 .0)) refl) (λ src l k. monadic-read l _ _ (free-of .free-of .ensures .1)
-    (place-here .place-here .ensures .1 src l) (if1 .if1 .left) k (start .pre .1 .1) (reach-of .reach-of .ensures .1 .0)
-    (expect .expect .ensures .1 .1 src l) (expr .expr .ensures .1 .1 src l) (node .node .ensures .1 .1)))
+    let if1 = free-of .before .before in let start = if1 .before .before in leaves ((λ src l x y z k. monadic-read l _ _
+    (free-of .free-of .ensures .1) (place-here .place-here .ensures .1 src l) (if1 .if1 .left) k (start .pre .1 .1)
+    (reach-of .reach-of .ensures .1 .0) x y z) from expect .expect .ensures .1 with expr .expr .ensures .1 adding node .node .ensures .1) refl)

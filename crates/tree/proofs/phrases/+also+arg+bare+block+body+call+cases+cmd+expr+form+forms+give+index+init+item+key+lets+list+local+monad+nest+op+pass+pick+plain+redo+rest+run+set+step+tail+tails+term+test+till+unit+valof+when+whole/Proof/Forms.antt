@@ -15,13 +15,13 @@ use Rattle.tree.proofs.Commands.{unlabelled-guarded, unlabelled-leave, 
 use Rattle.tree.proofs.Helpers.{low-past}
 use Rattle.tree.proofs.Lists.{Before}
 use Rattle.tree.proofs.Loops.{SoFar, before-first, before-next, before-last, wordless, so-begins, many-turns, many-ends, many-spent}
-use Rattle.tree.proofs.Rooms.{past-symbol, past-part, past-expression, left, room-left, leaves-less, ready-leaves, ready-takes, _plus_, _less_, ready-part, item-low, size-small}
+use Rattle.tree.proofs.Rooms.{past-symbol, past-part, past-expression, left, room-left, ready-leaves, ready-takes, _plus_, _less_, ready-part, item-low, size-small}
 use Rattle.tree.proofs.Rooms.{measured}
 use Rattle.tree.proofs.Steps.{pair, goes-on, adds-on, refuses-on, _then_}
 use Rattle.tree.proofs.Symbols.{lies-still}
 use Rattle.tree.specs.Encoding.{encodeRepeats}
 use Rattle.tree.specs.Reads.{freeOf}
-use Rattle.tree.proofs.Wholes.{leaves, _from_, _with_, _adding_}
+use Rattle.tree.proofs.Wholes.{leaves, of-kind, _from_, _with_, _adding_, _setting_}
 use cycle.Proof.Ranks.{Calls, also-rank, arg-rank, at, bare-rank, begin-item, begins-command, below, block-rank, body-rank, calls-11, calls-4}
 use cycle.Proof.Ranks.{calls-5, calls-6, calls-7, calls-8, cases-rank, cmd-rank, expect, expr-rank, form-rank, forms-rank, free-of, give-rank}
 use cycle.Proof.Ranks.{goes-on-assignment, is-call, is-guard, is-label, is-leave, is-repeat, kind-here, label, labels, leave, minus, node, pick-rank}
@@ -112,17 +112,15 @@ redo-ok t =
     (λ c. search needs)
     (λ c. let node = c .before .before in let forms = node .before .before .before .before in let form = forms .before .before .before .before in
     let minus = form .before .before in let free-of2 = minus .before in let if1 = free-of2 .before .before in let is-repeat = if1 .before in
-    let kind-here = is-repeat .before in let plain = kind-here .before .before .before .before in let free-of = plain .before .before in pair
-    (room-left (left (plain .plain .ensures .1 .0) plus (form .form .ensures .1 .0) plus (forms .forms .ensures .1 .0) less
-    (node .node .ensures .1 .0)) refl) (λ src l. (let l₁ = lies-still l (plain .plain .ensures .1 .0 .kept) in let l₂ = lies-still l₁
-    (form .form .ensures .1 .0 .kept) in repeated-more l₁ _ _ (kind-here .kind-here .ensures .1 src l₁) (plain .plain .ensures .1 .1 src l) (sym
+    let kind-here = is-repeat .before in let plain = kind-here .before .before .before .before in let free-of = plain .before .before in leaves ((λ
+    src l d. let l₁ = lies-still l (plain .plain .ensures .1 .0 .kept) in repeated-more l₁ _ _ (kind-here .kind-here .ensures .1 src l₁) d (sym
     (is-repeat .is-repeat .ensures .1) ∙ if1 .if1 .taken) (free-of .free-of .ensures .1) (measured _ _ (minus .minus .ensures .1)
-    (free-of2 .free-of2 .ensures .1) (plain .plain .kept .0)) (form .form .ensures .1 .1 src l₁ (kind-here .kind-here .ensures .1 src l₁))
-    (forms .forms .ensures .1 .1 src l₂) (node .node .ensures .1 .1))))
+    (free-of2 .free-of2 .ensures .1) (plain .plain .kept .0))) from plain .plain .ensures .1 with of-kind (kind-here .kind-here .ensures .1)
+    (form .form .ensures .1) with forms .forms .ensures .1 adding node .node .ensures .1) refl)
     (λ c. search needs)
-    (λ c. let is-repeat = c .before in let kind-here = is-repeat .before in let plain = kind-here .before .before .before .before in pair (leaves-less
-    (plain .plain .ensures .1 .0) refl) (λ src l. (let l₁ = lies-still l (plain .plain .ensures .1 .0 .kept) in repeated-one l₁ 0 _
-    (kind-here .kind-here .ensures .1 src l₁) (plain .plain .ensures .1 .1 src l) (sym (is-repeat .is-repeat .ensures .1) ∙ c .if1 .left))))
+    (λ c. let is-repeat = c .before in let kind-here = is-repeat .before in let plain = kind-here .before .before .before .before in leaves ((λ src l
+    d. let l₁ = lies-still l (plain .plain .ensures .1 .0 .kept) in repeated-one l₁ 0 _ (kind-here .kind-here .ensures .1 src l₁) d (sym
+    (is-repeat .is-repeat .ensures .1) ∙ c .if1 .left)) from plain .plain .ensures .1) refl)
 
 abbrev pub forms-cs : ℕ → Calls cycle.Lts-forms.Claims
 forms-cs t = calls-4 minus kind-here is-repeat (below form-rank t)
@@ -163,9 +161,8 @@ pub form-ok : {M : Type 1} (t : ℕ) → cycle.Lts-form.Closed (form-cs t .claim
 form-ok t =
     cycle.Lts-form.spec (form-cs t .claims) (at form-rank t) (form-rank .post) (λ c κs. tt) (λ c κs. omega arith)
     (λ c κs. past-symbol refl (c .before .expect .ensures)) (λ c. search needs)
-    (λ c. let begin-item = c .before .before .before in let expect = begin-item .before .before in pair (room-left (left
-    (expect .expect .ensures .1 .0) less (begin-item .begin-item .ensures .1 .0)) refl) (λ src l k. repeat-read src 0 _ k (c .if1 .taken)
-    (expect .expect .ensures .1 .1 src l) (begin-item .begin-item .ensures .1 .1)))
+    (λ c. let begin-item = c .before .before .before in let expect = begin-item .before .before in leaves ((λ src l x y k. repeat-read src 0 _ k
+    (c .if1 .taken) x y) from expect .expect .ensures .1 adding begin-item .begin-item .ensures .1) refl)
     (λ c κs. pair (omega arith) (pair (ready-takes (c .before .before .before .before .begin-item .ensures .1 .0)
     (c .before .before .before .before .begin-item .kept .0) (c .before .before .before .before .begin-item .ensures .0)) (omega arith)))
     (λ c κs. let expr = c .before .before .before in let expect = expr .before .before .before .before .before .before .before in
@@ -173,12 +170,10 @@ form-ok t =
     (free-of .free-of .ensures .1) (expect .expect .ensures .0 .0)))
     (λ c. search needs)
     (λ c. let set-size = c .before .before in let expr = set-size .before .before .before .before in let if1 = expr .before .before in
-    let begin-item = if1 .before .before .before in let expect = begin-item .before .before in let free-of = expect .before .before in
-    let start = free-of .before .before .before in pair (room-left (left (expect .expect .ensures .1 .0) less (begin-item .begin-item .ensures .1 .0)
-    plus (expr .expr .ensures .1 .0) plus (set-size .set-size .ensures .1 .0)) refl) (λ src l k. repeat-on-read src _ _ k
-    (free-of .free-of .ensures .1) (if1 .if1 .left) (low-past (start .pre .1 .0) (expect .expect .ensures .1 .0)) (expect .expect .ensures .1 .1 src
-    l) (begin-item .begin-item .ensures .1 .1) (expr .expr .ensures .1 .1 src (lies-still l (begin-item .begin-item .ensures .1 .0 .kept)))
-    (set-size .set-size .ensures .1 .1)))
+    let begin-item = if1 .before .before .before in let expect = begin-item .before .before in let free-of = expect .before .before in leaves ((λ src
+    l w x y z k. repeat-on-read src _ _ k (free-of .free-of .ensures .1) (if1 .if1 .left) (low-past (expect .expect .ensures .0 .0)
+    (expect .expect .ensures .1 .0)) w x y z) from expect .expect .ensures .1 adding begin-item .begin-item .ensures .1 with expr .expr .ensures .1
+    setting set-size .set-size .ensures .1) refl)
 
 abbrev pub plain-cs : ℕ → Calls cycle.Lts-plain.Claims
 plain-cs t =
@@ -255,11 +250,9 @@ when-ok t =
     (c .before .before .before .before .before .expect2 .ensures)))
     (λ c. search needs)
     (λ c. let node = c .before .before in let cmd = node .before .before .before .before in let expect2 = cmd .before .before in
-    let expr = expect2 .before .before .before .before in let expect = expr .before .before in let free-of = expect .before .before in pair (room-left
-    (left (expect .expect .ensures .1 .0) plus (expr .expr .ensures .1 .0) plus (expect2 .expect2 .ensures .1 .0) plus (cmd .cmd .ensures .1 .0) less
-    (node .node .ensures .1 .0)) refl) (λ src l k. (let l₂ = lies-still l (expr .expr .ensures .1 .0 .kept) in guarded-read l _ _
-    (free-of .free-of .ensures .1) k (expect .expect .ensures .1 .1 src l) (expr .expr .ensures .1 .1 src l) (expect2 .expect2 .ensures .1 .1 src l₂)
-    (cmd .cmd .ensures .1 .1 src l₂) (node .node .ensures .1 .1))))
+    let expr = expect2 .before .before .before .before in let expect = expr .before .before in let free-of = expect .before .before in leaves ((λ src
+    l v w x y z k. guarded-read l _ _ (free-of .free-of .ensures .1) k v w x y z) from expect .expect .ensures .1 with expr .expr .ensures .1 with
+    expect2 .expect2 .ensures .1 with cmd .cmd .ensures .1 adding node .node .ensures .1) refl)
 
 abbrev pub give-cs : ℕ → Calls cycle.Lts-give.Claims
 give-cs t = calls-5 free-of place-here expect (below expr-rank t) node

@@ -18,13 +18,14 @@ use Rattle.tree.proofs.Lists.{Before}
 use Rattle.tree.proofs.Loops.{SoFar, before-first, before-last, wordless, so-begins, so-turns, so-ends, many-turns, many-ends, many-spent}
 use Rattle.tree.proofs.Readers.{bracketed-read, valof-read, argument-read, index-read, arguments-read, no-arguments, some-arguments}
 use Rattle.tree.proofs.Readers.{further-reads}
-use Rattle.tree.proofs.Rooms.{past-symbol, past-part, past-expression, left, taken, room-left, room-taken, leaves-less, ready-leaves, ready-takes, _plus_, _less_, ready-part}
+use Rattle.tree.proofs.Rooms.{past-symbol, past-part, past-expression, left, taken, room-left, leaves-less, ready-leaves, ready-takes, _plus_, ready-part}
 use Rattle.tree.proofs.Rooms.{item-low, size-small, measured}
 use Rattle.tree.proofs.Steps.{pair, again}
 use Rattle.tree.proofs.Symbols.{lies-still}
 use Rattle.tree.specs.Between.{aFurther}
 use Rattle.tree.specs.Encoding.{encodeExpressions}
 use Rattle.tree.specs.Reads.{Encodes}
+use Rattle.tree.proofs.Wholes.{leaves, takes, of-kind, _from_, _writing_, _with_, _adding_, _setting_}
 use cycle.Proof.Ranks.{Calls, also-rank, arg-rank, at, atom, begin-item, below, call-rank, calls-10, calls-2, calls-3, calls-4, calls-5, calls-6}
 use cycle.Proof.Ranks.{close-item, cmd-rank, expect, expr-rank, free-of, index-rank, is-monadic, is-suffix, key-rank, kind-here, minus, monad-rank}
 use cycle.Proof.Ranks.{nest-rank, node, pass-rank, place-here, place-of, refuse, rest-rank, set-size, suffixed-kind, tail-rank, tails-rank, unit-rank}
@@ -58,17 +59,15 @@ whole-ok t =
     (λ c. let node = c .before .before in let suffixed-kind = node .before in let tails = suffixed-kind .before .before .before .before in
     let tail = tails .before .before .before .before in let place-of = tail .before .before in let minus = place-of .before .before in
     let free-of2 = minus .before in let if1 = free-of2 .before .before in let is-suffix = if1 .before in let kind-here = is-suffix .before in
-    let unit = kind-here .before .before .before .before in let free-of = unit .before .before in pair (room-left (left (unit .unit .ensures .1 .0)
-    plus (tail .tail .ensures .1 .0) plus (tails .tails .ensures .1 .0) less (node .node .ensures .1 .0)) refl) (λ src l. (let l₁ = lies-still l
-    (unit .unit .ensures .1 .0 .kept) in let l₂ = lies-still l₁ (tail .tail .ensures .1 .0 .kept) in suffixed-more l₁ _ _
-    (kind-here .kind-here .ensures .1 src l₁) (unit .unit .ensures .1 .1 src l) (sym (is-suffix .is-suffix .ensures .1) ∙ if1 .if1 .taken)
-    (free-of .free-of .ensures .1) (measured _ _ (minus .minus .ensures .1) (free-of2 .free-of2 .ensures .1) (unit .unit .kept .0))
-    (place-of .place-of .ensures .1) (suffixed-kind .suffixed-kind .ensures .1) (tail .tail .ensures .1 .1 src l₁ (kind-here .kind-here .ensures .1
-    src l₁)) (tails .tails .ensures .1 .1 src l₂) (node .node .ensures .1 .1))))
+    let unit = kind-here .before .before .before .before in let free-of = unit .before .before in leaves ((λ src l d. let l₁ = lies-still l
+    (unit .unit .ensures .1 .0 .kept) in suffixed-more l₁ _ _ (kind-here .kind-here .ensures .1 src l₁) d (sym (is-suffix .is-suffix .ensures .1) ∙
+    if1 .if1 .taken) (free-of .free-of .ensures .1) (measured _ _ (minus .minus .ensures .1) (free-of2 .free-of2 .ensures .1) (unit .unit .kept .0))
+    (place-of .place-of .ensures .1) (suffixed-kind .suffixed-kind .ensures .1)) from unit .unit .ensures .1 with of-kind
+    (kind-here .kind-here .ensures .1) (tail .tail .ensures .1) with tails .tails .ensures .1 adding node .node .ensures .1) refl)
     (λ c. search needs)
-    (λ c. let is-suffix = c .before in let kind-here = is-suffix .before in let unit = kind-here .before .before .before .before in pair
-    (unit .unit .ensures .1 .0) (λ src l. (let l₁ = lies-still l (unit .unit .ensures .1 .0 .kept) in suffixed-one l₁ 0 _
-    (kind-here .kind-here .ensures .1 src l₁) (unit .unit .ensures .1 .1 src l) (sym (is-suffix .is-suffix .ensures .1) ∙ c .if1 .left))))
+    (λ c. let is-suffix = c .before in let kind-here = is-suffix .before in let unit = kind-here .before .before .before .before in leaves ((λ src l
+    d. let l₁ = lies-still l (unit .unit .ensures .1 .0 .kept) in suffixed-one l₁ 0 _ (kind-here .kind-here .ensures .1 src l₁) d (sym
+    (is-suffix .is-suffix .ensures .1) ∙ c .if1 .left)) from unit .unit .ensures .1) refl)
 
 abbrev pub unit-cs : ℕ → Calls cycle.Lts-unit.Claims
 unit-cs t = calls-4 kind-here (below nest-rank t) (below valof-rank t) atom
@@ -98,10 +97,9 @@ nest-ok t =
     (λ c κs. past-symbol refl (c .before .expect2 .ensures)) (λ c. search needs)
     (λ c. let node = c .before .before in let expect2 = node .before .before in let expr = expect2 .before .before .before .before in
     let expect = expr .before .before in let place-here = expect .before .before in let free-of = place-here .before .before in
-    let if1 = free-of .before .before in pair (room-left (left (expect .expect .ensures .1 .0) plus (expr .expr .ensures .1 .0) plus
-    (expect2 .expect2 .ensures .1 .0) less (node .node .ensures .1 .0)) refl) (λ src l. bracketed-read l _ _ (free-of .free-of .ensures .1)
-    (place-here .place-here .ensures .1 src l) (if1 .if1 .left) (expect .expect .ensures .1 .1 src l) (expr .expr .ensures .1 .1 src l)
-    (expect2 .expect2 .ensures .1 .1 src (lies-still l (expr .expr .ensures .1 .0 .kept))) (node .node .ensures .1 .1)))
+    let if1 = free-of .before .before in leaves ((λ src l. bracketed-read l _ _ (free-of .free-of .ensures .1) (place-here .place-here .ensures .1 src
+    l) (if1 .if1 .left)) from expect .expect .ensures .1 with expr .expr .ensures .1 with expect2 .expect2 .ensures .1 adding node .node .ensures .1)
+    refl)
 
 abbrev pub valof-cs : ℕ → Calls cycle.Lts-valof.Claims
 valof-cs t = calls-6 refuse free-of place-here expect (below cmd-rank t) node
@@ -115,10 +113,9 @@ valof-ok t =
     (c .before .before .before .before .before .expect .ensures)))
     (λ c. search needs)
     (λ c. let node = c .before .before in let cmd = node .before .before .before .before in let expect = cmd .before .before in
-    let place-here = expect .before .before in let free-of = place-here .before .before in let if1 = free-of .before .before in pair (room-left (left
-    (expect .expect .ensures .1 .0) plus (cmd .cmd .ensures .1 .0) less (node .node .ensures .1 .0)) refl) (λ src l. valof-read l _ _
-    (free-of .free-of .ensures .1) (place-here .place-here .ensures .1 src l) (if1 .if1 .left) (expect .expect .ensures .1 .1 src l)
-    (cmd .cmd .ensures .1 .1 src l) (node .node .ensures .1 .1)))
+    let place-here = expect .before .before in let free-of = place-here .before .before in let if1 = free-of .before .before in leaves ((λ src l.
+    valof-read l _ _ (free-of .free-of .ensures .1) (place-here .place-here .ensures .1 src l) (if1 .if1 .left)) from expect .expect .ensures .1 with
+    cmd .cmd .ensures .1 adding node .node .ensures .1) refl)
 
 abbrev pub tail-cs : ℕ → Calls cycle.Lts-tail.Claims
 tail-cs t = calls-2 (below call-rank t) (below index-rank t)
@@ -173,9 +170,9 @@ call-ok t =
     (c .before .before .before .pass .ensures .0 .1) refl))
     (λ c. search needs)
     (λ c. let close-item = c .before .before in let pass = close-item .before .before .before .before in let expect = pass .before .before in
-    let free-of = expect .before .before in let if1 = free-of .before .before in pair (room-left (left (expect .expect .ensures .1 .0) plus
-    (pass .pass .ensures .1 .0) less (close-item .close-item .ensures .1 .0)) refl) (λ src l. arguments-read src _ _ (free-of .free-of .ensures .1)
-    (if1 .if1 .left) (expect .expect .ensures .1 .1 src l) (pass .pass .ensures .1 .1 src l) (close-item .close-item .ensures .1 .1)))
+    let free-of = expect .before .before in let if1 = free-of .before .before in leaves ((λ src l. arguments-read src _ _
+    (free-of .free-of .ensures .1) (if1 .if1 .left)) from expect .expect .ensures .1 with pass .pass .ensures .1 adding
+    close-item .close-item .ensures .1) refl)
 
 abbrev pub pass-cs : ℕ → Calls cycle.Lts-pass.Claims
 pass-cs t = calls-4 kind-here expect (below arg-rank t) (below also-rank t)
@@ -211,11 +208,9 @@ arg-ok t =
     (free-of .free-of .ensures .1) (ready-part (begin-item .begin-item .ensures .0) refl)))
     (λ c. search needs)
     (λ c. let set-size = c .before .before in let expr = set-size .before .before .before .before in
-    let begin-item = expr .before .before .before .before in let free-of = begin-item .before .before in
-    let start = free-of .before .before .before in pair (room-taken (taken (begin-item .begin-item .ensures .1 .0) plus (expr .expr .ensures .1 .0)
-    plus (set-size .set-size .ensures .1 .0)) refl) (λ src l. argument-read src _ _ (free-of .free-of .ensures .1) (low (start .pre .1))
-    (begin-item .begin-item .ensures .1 .1) (expr .expr .ensures .1 .1 src (lies-still l (begin-item .begin-item .ensures .1 .0 .kept)))
-    (set-size .set-size .ensures .1 .1)))
+    let begin-item = expr .before .before .before .before in let free-of = begin-item .before .before in takes ((λ src l. argument-read src _ _
+    (free-of .free-of .ensures .1) (low (begin-item .begin-item .ensures .0))) writing begin-item .begin-item .ensures .1 with expr .expr .ensures .1
+    setting set-size .set-size .ensures .1) refl)
 
 abbrev pub also-cs : ℕ → Calls cycle.Lts-also.Claims
 also-cs t = calls-3 kind-here expect (below arg-rank t)
@@ -280,9 +275,8 @@ index-ok t =
     (c .before .before .before .before .before .expect .ensures)))
     (λ c. search needs)
     (λ c. let close-item = c .before .before in let key = close-item .before .before .before .before in let expect = key .before .before in
-    let free-of = expect .before .before in pair (room-left (left (expect .expect .ensures .1 .0) plus (key .key .ensures .1 .0) less
-    (close-item .close-item .ensures .1 .0)) refl) (λ src l. index-read src _ _ (free-of .free-of .ensures .1) (expect .expect .ensures .1 .1 src l)
-    (key .key .ensures .1 .1 src l) (close-item .close-item .ensures .1 .1)))
+    let free-of = expect .before .before in leaves ((λ src l. index-read src _ _ (free-of .free-of .ensures .1)) from expect .expect .ensures .1 with
+    key .key .ensures .1 adding close-item .close-item .ensures .1) refl)
 
 abbrev pub key-cs : ℕ → Calls cycle.Lts-key.Claims
 key-cs t = calls-4 kind-here is-monadic (below monad-rank t) (below unit-rank t)
