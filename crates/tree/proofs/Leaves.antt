@@ -12,7 +12,7 @@ use Rattle.tree.proofs.Rooms.{leaves-less}
 use Rattle.tree.proofs.Choices.{Refusing}
 use Rattle.tree.proofs.Classes.{unlike3, unlike5}
 use Rattle.text.proofs.Bytes.{Unlike}
-use Rattle.tree.proofs.Steps.{bind, here, added, adds-on, stopped}
+use Rattle.tree.proofs.Steps.{onOut-id, bind, here, added, adds-on, stopped}
 use Rattle.tree.proofs.Symbols.{placed, mapped, the-is, inside}
 use Rattle.tree.specs.declared.scratch.State.{State}
 use Rattle.tree.specs.declared.scratch.State.the-variants.{Read}
@@ -32,12 +32,8 @@ module _ {src : Source} {n : ℕ} {s : List ℕ} (l : HoldsSymbols src n s) {r :
   leaf-read size {p} {kind} {value} {tag} {lo} {s′} {r₁} {r₂} h pos d e a =
       let z : freeOf size r₁ - lo ≡ 0 = omega arith in
       here (λ at. onOut (the kind src at) (λ _ m. ok p m))
-      (λ at free q. itself (the kind src at) ∙ placed l h kind pos (λ x m. ok x m) at free q)
+      (λ at free q. onOut-id (the kind src at) ∙ placed l h kind pos (λ x m. ok x m) at free q)
       (bind size (λ _. []) d (adds-on a) (λ _ _. added size a (record { same = ap (λ (x : ℕ). x ∷ value ∷ p ∷ tag ∷ []) z })))
-    where
-      itself : (o : Out ℕ) → o ≡ onOut o (λ x m. ok x m)
-      itself (ok a m) = refl
-      itself (no k q) = refl
 
 -- what `value_here` ensures, whatever the source
 abbrev pub ValuesHere : (s : List ℕ) → (n : ℕ) → State → (v : ℕ) → Type 0
@@ -143,16 +139,12 @@ leave-read {src} {kind} k d =
     ∙ sym (ap (λ (o : Out ℕ). onOut o (λ place m. ok (T.leave kind place) m)) (the-is src kind at (sym q)))) (mapped (T.leave kind) (λ _. refl) d)
 
 -- a number and its record at another place
-pub same-out : (o : Out ℕ) → o ≡ onOut o (λ x m. ok x m)
-same-out (ok a m) = refl
-same-out (no k q) = refl
-
 pub negated-read :
     {first : ℕ → Out ℕ} (size : ℕ) {value place lo : ℕ} {s s′ : List ℕ} {r r₁ r₂ : State} → Reads first (λ _. []) s s r r₁ → lo ≡ freeOf size r₁
     → Adds (recordFrom lo value place K.MINUS) s s′ r₁ r₂ → Reads first (λ _. leaf value place K.MINUS) s s′ r r₂
 negated-read {first} size {value} {place} {lo} {s} {s′} {r} {r₁} {r₂} d e a =
     let z : freeOf size r₁ - lo ≡ 0 = omega arith in
-    here (λ at. onOut (first at) (λ x m. ok x m)) (λ at free q. same-out (first at))
+    here (λ at. onOut (first at) (λ x m. ok x m)) (λ at free q. onOut-id (first at))
     (bind size (λ _. []) d (adds-on a) (λ _ _. added size a (record { same = ap (λ (x : ℕ). x ∷ value ∷ place ∷ K.MINUS ∷ []) z })))
 
 -- the place that is read is that of the symbol here
