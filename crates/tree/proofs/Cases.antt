@@ -49,8 +49,9 @@ module _ {src : Source} {n : ℕ} {s : List ℕ} (l : HoldsSymbols src n s) {r :
     (lo-is : lo ≡ freeOf size r) (h : Here (placeAt src) n r p) {s₁ s₃ s₄ : List ℕ} {r₀ r₁ r₃ r₄ : State} (le : freeOf size r₀ ≤ length s)
     (start-is : start ≡ freeOf size r₁) where
   label-read :
-      (kind : ℕ) → 0 < kind → (next : ℕ → ℕ → Out Label) {s₂ : List ℕ} → Reads (the kind src) (λ _. []) s s r r₀ → Adds (λ _. 0 ∷ kind ∷ []) s s₁ r₀ r₁
-      → Follows (next p) (λ y w. Encodes one y (item kind (closed w 0 p kind))) s₁ s₂ r₁ r₃ → Adds (recordFrom start 0 p kind) s₂ s₃ r₃ r₄
+      (kind : ℕ) → 0 < kind → (next : ℕ → ℕ → Out Label) {s₂ : List ℕ} → Reads (the kind src) (λ _. []) s s r r₀
+      → Adds (λ _. 0 ∷ kind ∷ []) s s₁ r₀ r₁ → Follows (next p) (λ y w. Encodes one y (item kind (closed w 0 p kind))) s₁ s₂ r₁ r₃
+      → Adds (recordFrom start 0 p kind) s₂ s₃ r₃ r₄
       → SetsSize lo s₃ s₄ r₄ → Reads (λ at. onOut (the kind src at) next) one s s₄ r r₄
   label-read kind pos next a b c f g =
       here _ (placed l h kind pos next)

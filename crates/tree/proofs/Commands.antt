@@ -4,7 +4,8 @@ use Rattle.laws.proofs.Basics.{length, length-append, eqb, arith, eq-eqb, ne-eq
 use Rattle.language.specs.Kinds as K
 use Rattle.language.specs.Kinds.{member}
 use Rattle.language.specs.Tree as T
-use Rattle.language.specs.Reader.{Source, ok, onOut, kindAt, placeAt, any, the, manyUpTo}
+use Rattle.language.specs.Tree.{Unlabelled}
+use Rattle.language.specs.Reader.{Reader, Source, ok, onOut, kindAt, placeAt, any, the, manyUpTo}
 use Rattle.language.specs.Binding.{LOOSEST, isRepeat, isGuard, isLeave}
 use Rattle.language.specs.Expressions as E
 use Rattle.language.specs.Commands as C
@@ -154,34 +155,27 @@ stays-on : (isLeave K.TEST ≡ false) × (isLeave K.FOR ≡ false) × (isLeave K
 unfolding isLeave member
 stays-on = (refl, refl, refl, refl)
 
+abbrev Command : Reader Unlabelled → (s s′ : List ℕ) → ℕ → (r r′ : State) → Type 0
+Command read s s′ n r r′ = Reading 1 read (Encodes encodeUnlabelled) s s′ n r r′
+
 module _ (x : ℕ) {s s′ : List ℕ} {n : ℕ} {r r′ : State} {kind : ℕ} (kinds : KindsHere s n r kind) where
-  pub unlabelled-test :
-      kind ≡ K.TEST → Reading 1 (C.test (readers (within x))) (Encodes encodeUnlabelled) s s′ n r r′
-      → Reading 1 (C.unlabelled (readers (within x))) (Encodes encodeUnlabelled) s s′ n r r′
+  pub unlabelled-test : kind ≡ K.TEST → Command (C.test (readers (within x))) s s′ n r r′ → Command (C.unlabelled (readers (within x))) s s′ n r r′
   unfolding C.unlabelled
   unlabelled-test q d = picked kinds _ (λ src at h. rw (h ∙ q)) d
 
-  pub unlabelled-resultis :
-      kind ≡ K.RESULTIS → Reading 1 (C.resultis (readers (within x))) (Encodes encodeUnlabelled) s s′ n r r′
-      → Reading 1 (C.unlabelled (readers (within x))) (Encodes encodeUnlabelled) s s′ n r r′
+  pub unlabelled-resultis : kind ≡ K.RESULTIS → Command (C.resultis (readers (within x))) s s′ n r r′ → Command (C.unlabelled (readers (within x))) s s′ n r r′
   unfolding C.unlabelled isGuard member
   unlabelled-resultis q d = picked kinds _ (λ src at h. rw (h ∙ q)) d
 
-  pub unlabelled-for :
-      kind ≡ K.FOR → Reading 1 (C.for (readers (within x))) (Encodes encodeUnlabelled) s s′ n r r′
-      → Reading 1 (C.unlabelled (readers (within x))) (Encodes encodeUnlabelled) s s′ n r r′
+  pub unlabelled-for : kind ≡ K.FOR → Command (C.for (readers (within x))) s s′ n r r′ → Command (C.unlabelled (readers (within x))) s s′ n r r′
   unfolding C.unlabelled isGuard member
   unlabelled-for q d = picked kinds _ (λ src at h. rw (h ∙ q)) d
 
-  pub unlabelled-switchon :
-      kind ≡ K.SWITCHON → Reading 1 (C.switchon (readers (within x))) (Encodes encodeUnlabelled) s s′ n r r′
-      → Reading 1 (C.unlabelled (readers (within x))) (Encodes encodeUnlabelled) s s′ n r r′
+  pub unlabelled-switchon : kind ≡ K.SWITCHON → Command (C.switchon (readers (within x))) s s′ n r r′ → Command (C.unlabelled (readers (within x))) s s′ n r r′
   unfolding C.unlabelled isGuard member
   unlabelled-switchon q d = picked kinds _ (λ src at h. rw (h ∙ q)) d
 
-  pub unlabelled-block :
-      kind ≡ K.BEGIN → Reading 1 (C.block (readers (within x))) (Encodes encodeUnlabelled) s s′ n r r′
-      → Reading 1 (C.unlabelled (readers (within x))) (Encodes encodeUnlabelled) s s′ n r r′
+  pub unlabelled-block : kind ≡ K.BEGIN → Command (C.block (readers (within x))) s s′ n r r′ → Command (C.unlabelled (readers (within x))) s s′ n r r′
   unfolding C.unlabelled isGuard isLeave member
   unlabelled-block q d = picked kinds _ (λ src at h. rw (h ∙ q)) d
 
@@ -189,7 +183,7 @@ module _ (x : ℕ) {s s′ : List ℕ} {n : ℕ} {r r′ : State} {kind : ℕ} (
   module _ {g : Bool} (guard : g ≡ isGuard kind) where
     pub unlabelled-guarded :
         g ≡ true → ReadingAt kind 1 (C.guarded (readers (within x))) (Encodes encodeUnlabelled) s s′ n r r′
-        → Reading 1 (C.unlabelled (readers (within x))) (Encodes encodeUnlabelled) s s′ n r r′
+        → Command (C.unlabelled (readers (within x))) s s′ n r r′
     unfolding C.unlabelled
     unlabelled-guarded q d =
         chosen kinds _ (λ src at h. rw (other {x = K.TEST} h (differs isGuard (sym guard ∙ q) not-test), ap isGuard h ∙ sym guard ∙ q)) d
@@ -197,7 +191,7 @@ module _ (x : ℕ) {s s′ : List ℕ} {n : ℕ} {r r′ : State} {kind : ℕ} (
     module _ (p : g ≡ false) {w : Bool} (leave : w ≡ isLeave kind) where
       pub unlabelled-leave :
           w ≡ true → ReadingAt kind 1 leaving (Encodes encodeUnlabelled) s s′ n r r′
-          → Reading 1 (C.unlabelled (readers (within x))) (Encodes encodeUnlabelled) s s′ n r r′
+          → Command (C.unlabelled (readers (within x))) s s′ n r r′
       unfolding C.unlabelled C.leave leaving
       unlabelled-leave q d =
           let yes = sym leave ∙ q in
@@ -215,8 +209,7 @@ module _ (x : ℕ) {s s′ : List ℕ} {n : ℕ} {r r′ : State} {kind : ℕ} (
 
       pub unlabelled-other :
           w ≡ false → Unlike kind (K.BEGIN ∷ K.RESULTIS ∷ K.SWITCHON ∷ K.FOR ∷ K.TEST ∷ [])
-          → Reading 1 (C.assignmentOrCall (readers (within x))) (Encodes encodeUnlabelled) s s′ n r r′
-          → Reading 1 (C.unlabelled (readers (within x))) (Encodes encodeUnlabelled) s s′ n r r′
+          → Command (C.assignmentOrCall (readers (within x))) s s′ n r r′ → Command (C.unlabelled (readers (within x))) s s′ n r r′
       unfolding C.unlabelled
       unlabelled-other q u d =
           let v = unlike5 u in

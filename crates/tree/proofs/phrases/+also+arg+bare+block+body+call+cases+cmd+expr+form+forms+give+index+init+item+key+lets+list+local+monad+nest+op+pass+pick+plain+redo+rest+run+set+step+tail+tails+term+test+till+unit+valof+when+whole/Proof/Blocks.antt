@@ -14,7 +14,8 @@ use Rattle.tree.proofs.Lets.{values-read, one-name, vector-is, vector-n
 use Rattle.tree.proofs.Lists.{Before}
 use Rattle.tree.proofs.Loops.{SoFar, before-first, before-next, before-last, wordless, so-begins, many-turns, many-ends, many-spent}
 use Rattle.tree.proofs.Loops.{list-spents, list-ends, list-semicolon-ends, list-goes-on}
-use Rattle.tree.proofs.Rooms.{for-size, past-symbol, past-part, past-expression, left, taken, room-left, room-taken, takes-more, takes-none, ready-leaves, ready-takes, _plus_, _less_}
+use Rattle.tree.proofs.Rooms.{for-size, past-symbol, past-part, past-expression, left, taken, room-left, room-taken, takes-more, takes-none}
+use Rattle.tree.proofs.Rooms.{ready-leaves, ready-takes, _plus_, _less_}
 use Rattle.tree.proofs.Rooms.{ready-part, item-low, size-small, freed, measured}
 use Rattle.tree.proofs.Steps.{pair, goes-on, adds-on, _then_}
 use Rattle.tree.proofs.Symbols.{lies-still}
@@ -35,29 +36,25 @@ step-ok t =
     (λ c κs. let e = c .before .before .before .a-name in pair (ready-leaves (e .ensures .1 .0) (e .kept .0) refl (e .ensures .0)) (omega arith))
     (λ c κs. pair (omega arith) (pair (past-symbol refl (c .before .expect2 .ensures)) (omega arith)))
     (λ c κs. let e = c .before .before .before .expr in pair (past-expression refl (e .ensures) (e .kept .0)) (omega arith))
-    (λ c κs. pair (omega (
-      arith,
-      c .before .before .before .before .before .before .before .before .before .before .before .before .before .before .before .before .before .before .pre .0,
-    ))
-    (pair (past-symbol refl (c .before .expect3 .ensures)) (omega arith)))
+    (λ c κs. let expect3 = c .before in let start = expect3 .before .before .before .before .before .before .before .before .before .before .before
+    .before .before .before .before .before .before in pair (omega (arith, start .pre .0)) (pair (past-symbol refl (expect3 .expect3 .ensures)) (omega
+    arith)))
     (λ c κs. let e = c .before .before .before .expr2 in past-expression refl (e .ensures) (e .kept .0)) (λ c κs. tt) (λ c κs. tt) (λ c κs. tt)
     (λ c κs. let e = c .before .before .before .before .before .before .before .before .optional-by in pair (ready-leaves (e .ensures .1 .0)
     (e .kept .0) refl (e .ensures .0)) (omega arith))
-    (λ c κs. pair (omega (
-      arith,
-      c .before .before .before .before .before .before .before .before .before .before .before .before .before .before .before .before .before .before .before .before .before .before .before .before .before .before .before .before .before .before .before .before .before .pre .0,
-    ))
-    (past-symbol refl (c .before .expect4 .ensures)))
+    (λ c κs. let expect4 = c .before in let start = expect4 .before .before .before .before .before .before .before .before .before .before .before
+    .before .before .before .before .before .before .before .before .before .before .before .before .before .before .before .before .before .before
+    .before .before .before in pair (omega (arith, start .pre .0)) (past-symbol refl (expect4 .expect4 .ensures)))
     (λ c. let expect4 = c .before .before .before .before .before in let minus = expect4 .before .before in
     let free-of2 = minus .before .before .before in let small = size-small _ (minus .minus .ensures .1) (free-of2 .free-of2 .ensures .1)
     (expect4 .expect4 .ensures .0 .0) in omega arith)
     (λ c κs. ready-leaves (c .before .before .before .cmd .ensures .1 .0) (c .before .before .before .cmd .kept .0) refl (past-symbol refl
     (c .before .before .before .before .before .expect4 .ensures)))
-    (λ c. let node = c .before .before in let cmd = node .before .before .before .before in
-    let optional-by = cmd .before .before .before .before .before .before .before .before .before .before .before in
-    let expr2 = optional-by .before .before .before .before in let expr = expr2 .before .before .before .before .before .before in
-    let a-name = expr .before .before .before .before .before .before in node .node .kept .0 ∙ cmd .cmd .kept .0 ∙ optional-by .optional-by .kept .0 ∙
-    expr2 .expr2 .kept .0 ∙ expr .expr .kept .0 ∙ a-name .a-name .kept .0)
+    (λ c. let node = c .before .before in let cmd = node .before .before .before .before in let optional-by = cmd .before .before .before .before
+    .before .before .before .before .before .before .before in let expr2 = optional-by .before .before .before .before in
+    let expr = expr2 .before .before .before .before .before .before in let a-name = expr .before .before .before .before .before .before in
+    node .node .kept .0 ∙ cmd .cmd .kept .0 ∙ optional-by .optional-by .kept .0 ∙ expr2 .expr2 .kept .0 ∙ expr .expr .kept .0 ∙
+    a-name .a-name .kept .0)
     (λ c. let node = c .before .before in let cmd = node .before .before .before .before in let expect4 = cmd .before .before in
     let minus = expect4 .before .before in let free-of3 = minus .before in let free-of2 = free-of3 .before .before in
     let optional-by = free-of2 .before .before .before .before in let expr2 = optional-by .before .before .before .before in
@@ -79,12 +76,9 @@ pick-ok t =
     (λ c κs. let e = c .before .before .before .before .before .before .expr in pair (past-expression refl (e .ensures) (e .kept .0)) (omega arith))
     (λ c κs. pair (past-symbol refl (c .before .expect2 .ensures)) (omega arith))
     (λ c κs. pair (omega arith) (past-symbol refl (c .before .expect3 .ensures)))
-    (λ c κs. pair (omega (
-      arith,
-      c .before .before .before .before .before .before .before .before .before .before .before .before .before .before .before .before .before .before .before .before .before .pre .0,
-    ))
-    (ready-takes (c .before .before .before .item .ensures .1 .0) (c .before .before .before .item .kept .0)
-    (c .before .before .before .item .ensures .0 .1)))
+    (λ c κs. let item = c .before .before .before in let start = item .before .before .before .before .before .before .before .before .before .before
+    .before .before .before .before .before .before .before .before in pair (omega (arith, start .pre .0)) (ready-takes (item .item .ensures .1 .0)
+    (item .item .kept .0) (item .item .ensures .0 .1)))
     (λ c. let expect2 = c .before .before .before .before .before .before .before .before .before .before .before in
     let minus = expect2 .before .before in let free-of2 = minus .before in let small = size-small _ (minus .minus .ensures .1)
     (free-of2 .free-of2 .ensures .1) (expect2 .expect2 .ensures .0 .0) in omega arith)
@@ -230,22 +224,21 @@ local-ok t =
     (λ c κs. tt)
     (λ c κs. let e = c .before .before .before .before .before .before .before .before .further-names in pair (ready-leaves (e .ensures .1 .0)
     (e .kept .0) refl (e .ensures .0)) (omega arith))
-    (λ c κs. pair (omega (
+    (λ c κs. let expect2 = c .before in let start = expect2 .before .before .before .before .before .before .before .before .before .before .before
+    .before .before .before .before .before .before .before .before .before .before .before .before .before .before .before in pair (omega (
       arith,
-      c .before .before .before .before .before .before .before .before .before .before .before .before .before .before .before .before .before .before .before .before .before .before .before .before .before .before .before .pre .0,
-    ))
-    (past-symbol refl (c .before .expect2 .ensures)))
+      start .pre .0,
+    )) (past-symbol refl (expect2 .expect2 .ensures)))
     (λ c κs. pair (ready-takes (c .before .before .before .init .ensures .1 .0) (c .before .before .before .init .kept .0)
     (c .before .before .before .init .ensures .0 .1)) (omega arith))
-    (λ c κs. let optional = c .before in
-    let expect = optional .before .before .before .before .before .before .before .before .before .before .before .before .before .before .before .before .before .before .before .before .before .before .before .before .before .before .before in
+    (λ c κs. let optional = c .before in let expect = optional .before .before .before .before .before .before .before .before .before .before .before
+    .before .before .before .before .before .before .before .before .before .before .before .before .before .before .before .before in
     let free-of = expect .before .before in pair (ready-leaves (optional .optional .ensures .1 .0) refl refl (optional .optional .ensures .0 .0))
     (item-low (free-of .free-of .ensures .1) (expect .expect .ensures .0 .0)))
-    (λ c. let set-size = c .before .before in let init = set-size .before .before .before .before .before .before in
-    let further-names = init .before .before .before .before .before .before .before .before .before .before .before in
-    let a-name = further-names .before .before .before .before in let begin-item = a-name .before .before .before .before .before .before in
-    set-size .set-size .kept .0 ∙ init .init .kept .0 ∙ further-names .further-names .kept .0 ∙ a-name .a-name .kept .0 ∙
-    begin-item .begin-item .kept .0)
+    (λ c. let set-size = c .before .before in let init = set-size .before .before .before .before .before .before in let further-names = init .before
+    .before .before .before .before .before .before .before .before .before .before in let a-name = further-names .before .before .before .before in
+    let begin-item = a-name .before .before .before .before .before .before in set-size .set-size .kept .0 ∙ init .init .kept .0 ∙
+    further-names .further-names .kept .0 ∙ a-name .a-name .kept .0 ∙ begin-item .begin-item .kept .0)
     (λ c. let set-size = c .before .before in let optional = set-size .before .before in let init = optional .before .before .before .before in
     let expect2 = init .before .before in let minus = expect2 .before .before in let free-of4 = minus .before in
     let free-of3 = free-of4 .before .before in let further-names = free-of3 .before .before .before .before in

@@ -52,12 +52,9 @@ expr-ok t =
       if4 .if4 .left,
       if1 .if1 .left,
     )))))
-    (λ c κs. pair (omega (
-      arith,
-      c .before .before .before .before .before .before .before .before .before .before .before .before .before .before .before .before .before .before .before .before .before .before .before .before .pre .0,
-    ))
-    (triple (ready-leaves (c .before .before .before .op .ensures .1 .0) (c .before .before .before .op .kept .0) refl
-    (c .before .before .before .op .ensures .0 .1 .0)) (omega arith) (omega arith)))
+    (λ c κs. let op = c .before .before .before in let start = op .before .before .before .before .before .before .before .before .before .before
+    .before .before .before .before .before .before .before .before .before .before .before in pair (omega (arith, start .pre .0)) (triple
+    (ready-leaves (op .op .ensures .1 .0) (op .op .kept .0) refl (op .op .ensures .0 .1 .0)) (omega arith) (omega arith)))
     (λ c. let place-of = c .before .before .before .before .before .before .before .before .before .before in let minus = place-of .before .before in
     let free-of2 = minus .before in let small = size-small _ (minus .minus .ensures .1) (free-of2 .free-of2 .ensures .1)
     (place-of .place-of .ensures .0) in omega arith)
@@ -65,9 +62,9 @@ expr-ok t =
     (c .before .before .before .before .before .before .before .op .ensures .1 .0)
     (c .before .before .before .before .before .before .before .op .kept .0) refl
     (c .before .before .before .before .before .before .before .op .ensures .0 .1 .0)))
-    (λ c. let node = c .before .before in let run = node .before .before .before .before in let op = run .before .before .before .before in
-    let expr2 = op .before .before .before .before .before .before .before .before .before .before .before .before .before .before in
-    node .node .kept .0 ∙ run .run .kept .0 ∙ op .op .kept .0 ∙ expr2 .expr2 .kept .0)
+    (λ c. let node = c .before .before in let run = node .before .before .before .before in let op = run .before .before .before .before in let expr2
+    = op .before .before .before .before .before .before .before .before .before .before .before .before .before .before in node .node .kept .0 ∙
+    run .run .kept .0 ∙ op .op .kept .0 ∙ expr2 .expr2 .kept .0)
     (λ c. let node = c .before .before in let run = node .before .before .before .before in let op = run .before .before .before .before in
     let right-of = op .before .before in let place-of = right-of .before in let minus = place-of .before .before in let free-of2 = minus .before in
     let if4 = free-of2 .before .before in let binding-of = if4 .before in let kind-here2 = binding-of .before in

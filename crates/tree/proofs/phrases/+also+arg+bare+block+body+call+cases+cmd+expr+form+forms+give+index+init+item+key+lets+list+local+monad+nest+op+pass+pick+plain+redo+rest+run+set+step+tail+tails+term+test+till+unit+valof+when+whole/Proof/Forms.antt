@@ -15,7 +15,8 @@ use Rattle.tree.proofs.Commands.{unlabelled-guarded, unlabelled-leave, 
 use Rattle.tree.proofs.Helpers.{low-past}
 use Rattle.tree.proofs.Lists.{Before}
 use Rattle.tree.proofs.Loops.{SoFar, before-first, before-next, before-last, wordless, so-begins, many-turns, many-ends, many-spent}
-use Rattle.tree.proofs.Rooms.{past-symbol, past-part, past-expression, left, room-left, ready-leaves, ready-takes, _plus_, _less_, ready-part, item-low, size-small}
+use Rattle.tree.proofs.Rooms.{past-symbol, past-part, past-expression, left, room-left, ready-leaves, ready-takes, _plus_, _less_, ready-part}
+use Rattle.tree.proofs.Rooms.{item-low, size-small}
 use Rattle.tree.proofs.Rooms.{measured}
 use Rattle.tree.proofs.Steps.{pair, goes-on, adds-on, refuses-on, _then_}
 use Rattle.tree.proofs.Symbols.{lies-still}
@@ -98,11 +99,9 @@ redo-ok t =
     (λ c κs. let if1 = c .before .before .before .before in let is-repeat = if1 .before in let kind-here = is-repeat .before in
     let start = kind-here .before .before .before .before .before .before .before .before .before in pair (omega (arith, start .pre .0)) (pair
     (kind-here .kind-here .ensures .0) (repeat-positive _ (is-repeat .is-repeat .ensures .1) (if1 .if1 .taken))))
-    (λ c κs. pair (omega (
-      arith,
-      c .before .before .before .before .before .before .before .before .before .before .before .before .before .before .before .before .before .before .before .pre .0,
-    ))
-    (past-expression refl (c .before .before .before .form .ensures) (c .before .before .before .form .kept .0)))
+    (λ c κs. let form = c .before .before .before in let start = form .before .before .before .before .before .before .before .before .before .before
+    .before .before .before .before .before .before in pair (omega (arith, start .pre .0)) (past-expression refl (form .form .ensures)
+    (form .form .kept .0)))
     (λ c. let form = c .before .before .before .before .before .before .before in let minus = form .before .before in let free-of2 = minus .before in
     let small = size-small _ (minus .minus .ensures .1) (free-of2 .free-of2 .ensures .1) (form .form .ensures .0 .1 .0) in omega arith)
     (λ c κs. let forms = c .before .before .before in let form = forms .before .before .before .before in
@@ -305,15 +304,11 @@ set-ok t =
     cycle.Lts-set.spec (set-cs t .claims) (at set-rank t) (set-rank .post) (λ c κs. tt) (λ c κs. tt) (λ c κs. omega arith) (λ c κs. tt) (λ c κs. tt)
     (λ c κs. let e = c .before .before .before .before .before .before .also in pair (past-part refl (e .ensures) (e .kept .0)) (omega arith))
     (λ c κs. pair (omega arith) (past-symbol refl (c .before .expect .ensures)))
-    (λ c κs. pair (omega (
-      arith,
-      c .before .before .before .before .before .before .before .before .before .before .before .before .before .before .before .before .before .before .pre .0,
-    ))
-    (ready-takes (c .before .before .before .arg .ensures .1 .0) (c .before .before .before .arg .kept .0) (ready-part
-    (c .before .before .before .arg .ensures .0 .1) refl)))
-    (λ c.
-    let also = c .before .before .before .before .before .before .before .before .before .before .before .before .before .before .before .before in
-    let minus = also .before .before in let free-of = minus .before in let small = size-small _ (minus .minus .ensures .1)
+    (λ c κs. let arg = c .before .before .before in let start = arg .before .before .before .before .before .before .before .before .before .before
+    .before .before .before .before .before in pair (omega (arith, start .pre .0)) (ready-takes (arg .arg .ensures .1 .0) (arg .arg .kept .0)
+    (ready-part (arg .arg .ensures .0 .1) refl)))
+    (λ c. let also = c .before .before .before .before .before .before .before .before .before .before .before .before .before .before .before .before
+    in let minus = also .before .before in let free-of = minus .before in let small = size-small _ (minus .minus .ensures .1)
     (free-of .free-of .ensures .1) (also .also .ensures .0 .1) in omega arith)
     (λ c. let expect = c .before .before .before .before .before .before .before .before .before in let minus2 = expect .before .before in
     let free-of2 = minus2 .before in let small = size-small _ (minus2 .minus2 .ensures .1) (free-of2 .free-of2 .ensures .1)

@@ -35,16 +35,21 @@ module _ (m : Member) (t : ℕ) where
 
 -- the functions outside the cycle
 abbrev pub begins-command : Callee
-begins-command = callee b.begins_command.Kinds.ps b.begins_command.Kinds.r b.begins_command.Reads.Asked b.begins_command.Reads.Learnt "tree::binding::begins_command"
+begins-command =
+    callee b.begins_command.Kinds.ps b.begins_command.Kinds.r b.begins_command.Reads.Asked b.begins_command.Reads.Learnt
+    "tree::binding::begins_command"
 
 abbrev pub binding-of : Callee
 binding-of = callee b.binding_of.Kinds.ps b.binding_of.Kinds.r b.binding_of.Reads.Asked b.binding_of.Reads.Learnt "tree::binding::binding_of"
 
 abbrev pub further-most : Callee
-further-most = callee b.further_most.Kinds.ps b.further_most.Kinds.r b.further_most.Reads.Asked b.further_most.Reads.Learnt "tree::binding::further_most"
+further-most =
+    callee b.further_most.Kinds.ps b.further_most.Kinds.r b.further_most.Reads.Asked b.further_most.Reads.Learnt "tree::binding::further_most"
 
 abbrev pub goes-on-assignment : Callee
-goes-on-assignment = callee b.goes_on_assignment.Kinds.ps b.goes_on_assignment.Kinds.r b.goes_on_assignment.Reads.Asked b.goes_on_assignment.Reads.Learnt "tree::binding::goes_on_assignment"
+goes-on-assignment =
+    callee b.goes_on_assignment.Kinds.ps b.goes_on_assignment.Kinds.r b.goes_on_assignment.Reads.Asked b.goes_on_assignment.Reads.Learnt
+    "tree::binding::goes_on_assignment"
 
 abbrev pub is-guard : Callee
 is-guard = callee b.is_guard.Kinds.ps b.is_guard.Kinds.r b.is_guard.Reads.Asked b.is_guard.Reads.Learnt "tree::binding::is_guard"
@@ -80,7 +85,8 @@ abbrev pub atom : Callee
 atom = callee p.atom.Kinds.ps p.atom.Kinds.r p.atom.Reads.Asked p.atom.Reads.Learnt "tree::parts::atom"
 
 abbrev pub further-names : Callee
-further-names = callee p.further_names.Kinds.ps p.further_names.Kinds.r p.further_names.Reads.Asked p.further_names.Reads.Learnt "tree::parts::further_names"
+further-names =
+    callee p.further_names.Kinds.ps p.further_names.Kinds.r p.further_names.Reads.Asked p.further_names.Reads.Learnt "tree::parts::further_names"
 
 abbrev pub label : Callee
 label = callee p.label.Kinds.ps p.label.Kinds.r p.label.Reads.Asked p.label.Reads.Learnt "tree::parts::label"
@@ -137,7 +143,8 @@ abbrev pub set-size : Callee
 set-size = callee s.set_size.Kinds.ps s.set_size.Kinds.r s.set_size.Reads.Asked s.set_size.Reads.Learnt "tree::scratch::set_size"
 
 abbrev pub suffixed-kind : Callee
-suffixed-kind = callee s.suffixed_kind.Kinds.ps s.suffixed_kind.Kinds.r s.suffixed_kind.Reads.Asked s.suffixed_kind.Reads.Learnt "tree::scratch::suffixed_kind"
+suffixed-kind =
+    callee s.suffixed_kind.Kinds.ps s.suffixed_kind.Kinds.r s.suffixed_kind.Reads.Asked s.suffixed_kind.Reads.Learnt "tree::scratch::suffixed_kind"
 
 -- what a function calls: a list of it, and the tuple of what is asked and learnt that its rule takes
 pub record Calls (T : Type 1) : Type 3 where
@@ -235,7 +242,9 @@ abbrev pub cmd-rank : Member
 cmd-rank = member of.cmd.Kinds.ps of.cmd.Kinds.r (λ κs a. a .1 .1 .0 * 64 + 55) of.cmd.Reads.Pre of.cmd.Reads.Post "tree::phrases::cmd"
 
 abbrev pub expr-rank : Member
-expr-rank = member of.expr.Kinds.ps of.expr.Kinds.r (λ κs a. a .1 .1 .0 * 64 + a .1 .1 .1 .0 * 4 + 20) of.expr.Reads.Pre of.expr.Reads.Post "tree::phrases::expr"
+expr-rank =
+    member of.expr.Kinds.ps of.expr.Kinds.r (λ κs a. a .1 .1 .0 * 64 + a .1 .1 .1 .0 * 4 + 20) of.expr.Reads.Pre of.expr.Reads.Post
+    "tree::phrases::expr"
 
 abbrev pub form-rank : Member
 form-rank = member of.form.Kinds.ps of.form.Kinds.r (λ κs a. a .1 .1 .0 * 64 + 56) of.form.Reads.Pre of.form.Reads.Post "tree::phrases::form"
@@ -292,7 +301,9 @@ abbrev pub rest-rank : Member
 rest-rank = member of.rest.Kinds.ps of.rest.Kinds.r (λ κs a. a .1 .1 .0 * 64 + 51) of.rest.Reads.Pre of.rest.Reads.Post "tree::phrases::rest"
 
 abbrev pub run-rank : Member
-run-rank = member of.run.Kinds.ps of.run.Kinds.r (λ κs a. a .1 .1 .0 * 64 + a .1 .1 .1 .1 .0 * 4 + 22) of.run.Reads.Pre of.run.Reads.Post "tree::phrases::run"
+run-rank =
+    member of.run.Kinds.ps of.run.Kinds.r (λ κs a. a .1 .1 .0 * 64 + a .1 .1 .1 .1 .0 * 4 + 22) of.run.Reads.Pre of.run.Reads.Post
+    "tree::phrases::run"
 
 abbrev pub set-rank : Member
 set-rank = member of.set.Kinds.ps of.set.Kinds.r (λ κs a. a .1 .1 .0 * 64 + 52) of.set.Reads.Pre of.set.Reads.Post "tree::phrases::set"

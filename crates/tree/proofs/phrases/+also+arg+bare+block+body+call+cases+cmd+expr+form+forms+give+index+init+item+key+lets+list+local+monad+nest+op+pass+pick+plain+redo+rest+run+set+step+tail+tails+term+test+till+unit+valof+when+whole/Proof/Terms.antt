@@ -18,7 +18,8 @@ use Rattle.tree.proofs.Lists.{Before}
 use Rattle.tree.proofs.Loops.{SoFar, before-first, before-last, wordless, so-begins, so-turns, so-ends, many-turns, many-ends, many-spent}
 use Rattle.tree.proofs.Readers.{bracketed-read, valof-read, argument-read, index-read, arguments-read, no-arguments, some-arguments}
 use Rattle.tree.proofs.Readers.{further-reads}
-use Rattle.tree.proofs.Rooms.{past-symbol, past-part, past-expression, left, taken, room-left, leaves-less, ready-leaves, ready-takes, _plus_, ready-part}
+use Rattle.tree.proofs.Rooms.{past-symbol, past-part, past-expression, left, taken, room-left, leaves-less, ready-leaves, ready-takes, _plus_}
+use Rattle.tree.proofs.Rooms.{ready-part}
 use Rattle.tree.proofs.Rooms.{item-low, size-small, measured}
 use Rattle.tree.proofs.Steps.{pair, again}
 use Rattle.tree.proofs.Symbols.{lies-still}
@@ -39,11 +40,9 @@ whole-ok t =
     cycle.Lts-whole.spec (whole-cs t .claims) (at whole-rank t) (whole-rank .post) (λ c κs. tt) (λ c κs. omega arith)
     (λ c κs. let e = c .before .before .before .unit in past-part refl (e .ensures) (e .kept .0)) (λ c κs. tt) (λ c κs. tt) (λ c κs. tt)
     (λ c κs. c .before .before .before .before .before .before .kind-here .ensures .0) (λ c κs. pair (omega arith) (c .before .place-of .ensures .0))
-    (λ c κs. pair (omega (
-      arith,
-      c .before .before .before .before .before .before .before .before .before .before .before .before .before .before .before .before .before .before .before .before .before .pre .0,
-    ))
-    (past-part refl (c .before .before .before .tail .ensures) (c .before .before .before .tail .kept .0)))
+    (λ c κs. let tail = c .before .before .before in let start = tail .before .before .before .before .before .before .before .before .before .before
+    .before .before .before .before .before .before .before .before in pair (omega (arith, start .pre .0)) (past-part refl (tail .tail .ensures)
+    (tail .tail .kept .0)))
     (λ c. let place-of = c .before .before .before .before .before .before .before .before .before in let minus = place-of .before .before in
     let free-of2 = minus .before in let small = size-small _ (minus .minus .ensures .1) (free-of2 .free-of2 .ensures .1)
     (place-of .place-of .ensures .0) in omega arith)
@@ -53,9 +52,8 @@ whole-ok t =
     (c .before .before .before .before .before .before .before .before .tail .kept .0) refl
     (c .before .before .before .before .before .before .before .before .tail .ensures .0 .1)))
     (λ c. let node = c .before .before in let tails = node .before .before .before .before .before in
-    let tail = tails .before .before .before .before in
-    let unit = tail .before .before .before .before .before .before .before .before .before .before .before .before .before in node .node .kept .0 ∙
-    tails .tails .kept .0 ∙ tail .tail .kept .0 ∙ unit .unit .kept .0)
+    let tail = tails .before .before .before .before in let unit = tail .before .before .before .before .before .before .before .before .before
+    .before .before .before .before in node .node .kept .0 ∙ tails .tails .kept .0 ∙ tail .tail .kept .0 ∙ unit .unit .kept .0)
     (λ c. let node = c .before .before in let suffixed-kind = node .before in let tails = suffixed-kind .before .before .before .before in
     let tail = tails .before .before .before .before in let place-of = tail .before .before in let minus = place-of .before .before in
     let free-of2 = minus .before in let if1 = free-of2 .before .before in let is-suffix = if1 .before in let kind-here = is-suffix .before in
