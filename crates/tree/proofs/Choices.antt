@@ -120,7 +120,9 @@ module _ (x : ℕ) {s s′ : List ℕ} {n : ℕ} {r r′ : State} {kind : ℕ} w
           → Reads-by (E.expression (within x) b) s s′ n r r′
       expression-not q d = chosen kinds _ (λ src at h. at-not x b rung src at ∙ rw (eq-eqb _ _ (h ∙ q))) d
 
-      pub expression-shift : (kind ≡ K.NOT → ⊥) → Reads-by (E.expression (within x) (b - 1)) s s′ n r r′ → Reads-by (E.expression (within x) b) s s′ n r r′
+      pub expression-shift :
+          (kind ≡ K.NOT → ⊥) → Reads-by (E.expression (within x) (b - 1)) s s′ n r r′
+          → Reads-by (E.expression (within x) b) s s′ n r r′
       expression-shift q d =
           let z : 4 ≡ b - 1 = omega arith in
           picked kinds _ (λ src at h. at-not x b rung src at ∙ rw (ne-eqb (kindAt src at) K.NOT (λ y. q (sym h ∙ y)))

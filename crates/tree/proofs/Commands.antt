@@ -14,23 +14,14 @@ use Rattle.tree.specs.Reads.{Encodes, Reading, ReadingAt, HoldsSymbols, 
 use Rattle.tree.specs.Reads.{freeOf}
 use Rattle.tree.specs.Between.{leaving, repeatedBy, repeatedOnly, encodeRepeatedOnly}
 use Rattle.tree.specs.Encoding.{REPEATED, closed, encode, encodeCommand, encodeUnlabelled, encodeRepeats, repeated}
-use Rattle.tree.proofs.Steps.{follow, bind, here, added, adds-on, goes-on, _then_, nothing}
-use Rattle.tree.proofs.Symbols.{placed, stays}
+use Rattle.tree.proofs.Steps.{follow, bind, here, closes, added, adds-on, goes-on, _then_, nothing}
+use Rattle.tree.proofs.Symbols.{ends, placed, stays}
 use Rattle.tree.proofs.Chains.{chained, grown}
 use Rattle.text.proofs.Bytes.{Unlike}
 use Rattle.tree.proofs.Classes.{unlike5}
 use Rattle.tree.proofs.Choices.{KindsHere, chosen, picked}
 use Rattle.tree.proofs.Readers.{any-the, item-read, put-first, many-none, many-first}
 use Rattle.tree.specs.declared.scratch.State.{State}
-
--- two or three parts and a record
-pub two : (a b : List ℕ) (z v p k : ℕ) → z ≡ length a + length b → a ++ (b ++ (z ∷ v ∷ p ∷ k ∷ [])) ≡ closed (a ++ b) v p k
-two a b z v p k e = sym (append-assoc a b (z ∷ v ∷ p ∷ k ∷ [])) ∙ ap (λ (y : ℕ). (a ++ b) ++ (y ∷ v ∷ p ∷ k ∷ [])) (e ∙ sym (length-append a b))
-
-pub three :
-    (a b c : List ℕ) (z v p k : ℕ) → z ≡ length a + (length b + length c) → a ++ (b ++ (c ++ (z ∷ v ∷ p ∷ k ∷ []))) ≡ closed (a ++ (b ++ c)) v p k
-three a b c z v p k e =
-    ap (λ (w : List ℕ). a ++ w) (sym (append-assoc b c (z ∷ v ∷ p ∷ k ∷ []))) ∙ two a (b ++ c) z v p k (omega (arith, length-append b c))
 
 module _ {src : Source} {n : ℕ} {s : List ℕ} (l : HoldsSymbols src n s) {r : State} (size x : ℕ) {lo : ℕ} (lo-is : lo ≡ freeOf size r) where
   pub resultis-read :
@@ -39,10 +30,9 @@ module _ {src : Source} {n : ℕ} {s : List ℕ} (l : HoldsSymbols src n s) {r :
       → Reads (C.resultis (readers (within x)) src) encodeUnlabelled s s₃ r r₃
   unfolding C.resultis encodeUnlabelled
   resultis-read {p} h a b d =
-      here _ (placed l h K.RESULTIS (omega arith) (λ place m. onOut (E.expression (within x) LOOSEST src m) (λ e w. ok (T.resultis place e) w)))
-      (bind size (λ _. []) a (goes-on b then adds-on d)
-      (λ _ q₁. bind size encode b (adds-on d)
-      (λ e q₂. added size d (record { same = ap (λ (z : ℕ). encode e ++ (z ∷ 0 ∷ p ∷ K.RESULTIS ∷ [])) (omega arith) }))))
+      closes (Encodes encodeUnlabelled) size lo-is
+      (here _ (placed l h K.RESULTIS (omega arith) (λ place m. onOut (E.expression (within x) LOOSEST src m) (λ e w. ok (T.resultis place e) w)))
+      (bind size (λ _. []) a (goes-on b) (λ _ _. ends (T.resultis p) b (λ e. record { same = refl })))) d
 
   pub guarded-read :
       {kind : ℕ} {s₂ s₄ s₅ : List ℕ} {r₁ r₂ r₃ r₄ r₅ : State} → KindHere src r kind → Reads (the kind src) (λ _. []) s s r r₁
@@ -51,13 +41,11 @@ module _ {src : Source} {n : ℕ} {s : List ℕ} (l : HoldsSymbols src n s) {r :
       → Reads (C.guarded (readers (within x)) src) encodeUnlabelled s s₅ r r₅
   unfolding C.guarded any encodeUnlabelled
   guarded-read {kind} k a b c d f =
-      here _ (any-the k (λ y _ m. onOut (E.expression (within x) LOOSEST src m)
+      closes (Encodes encodeUnlabelled) size lo-is
+      (here _ (any-the k (λ y _ m. onOut (E.expression (within x) LOOSEST src m)
       (λ e q. onOut (the K.DO src q) (λ _ w. onOut (C.command (within x) src w) (λ c u. ok (T.guarded y e c) u)))))
-      (bind size (λ _. []) a (goes-on b then goes-on c then goes-on d then adds-on f)
-      (λ _ q₁. bind size encode b (goes-on c then goes-on d then adds-on f)
-      (λ e q₂. bind size (λ _. []) c (goes-on d then adds-on f)
-      (λ _ q₃. bind size encodeCommand d (adds-on f)
-      (λ y q₄. added size f (record { same = two (encode e) (encodeCommand y) _ 0 0 kind (omega arith) }))))))
+      (bind size (λ _. []) a (goes-on b then goes-on c then goes-on d) (λ _ _. bind size encode b (goes-on c then goes-on d)
+      (λ e _. bind size (λ _. []) c (goes-on d) (λ _ _. ends (T.guarded kind e) d (λ y. record { same = refl })))))) f
 
   pub test-read :
       {s₂ s₄ s₆ s₇ : List ℕ} {r₁ r₂ r₃ r₄ r₅ r₆ r₇ : State} → Reads (the K.TEST src) (λ _. []) s s r r₁
@@ -67,13 +55,11 @@ module _ {src : Source} {n : ℕ} {s : List ℕ} (l : HoldsSymbols src n s) {r :
       → Reads (C.test (readers (within x)) src) encodeUnlabelled s s₇ r r₇
   unfolding C.test encodeUnlabelled
   test-read a b c d f g i =
-      bind size (λ _. []) a (goes-on b then goes-on c then goes-on d then goes-on f then goes-on g then adds-on i)
-      (λ _ q₁. bind size encode b (goes-on c then goes-on d then goes-on f then goes-on g then adds-on i)
-      (λ e q₂. bind size (λ _. []) c (goes-on d then goes-on f then goes-on g then adds-on i)
-      (λ _ q₃. bind size encodeCommand d (goes-on f then goes-on g then adds-on i)
-      (λ y q₄. bind size (λ _. []) f (goes-on g then adds-on i)
-      (λ _ q₅. bind size encodeCommand g (adds-on i)
-      (λ z q₆. added size i (record { same = three (encode e) (encodeCommand y) (encodeCommand z) _ 0 0 K.TEST (omega arith) })))))))
+      closes (Encodes encodeUnlabelled) size lo-is
+      (bind size (λ _. []) a (goes-on b then goes-on c then goes-on d then goes-on f then goes-on g)
+      (λ _ _. bind size encode b (goes-on c then goes-on d then goes-on f then goes-on g)
+      (λ e _. bind size (λ _. []) c (goes-on d then goes-on f then goes-on g) (λ _ _. bind size encodeCommand d (goes-on f then goes-on g)
+      (λ y _. bind size (λ _. []) f (goes-on g) (λ _ _. ends (T.test e y) g (λ z. record { same = refl }))))))) i
 
 -- REPEAT forms
 module _ (src : Source) {r : State} (size x : ℕ) {kind : ℕ} (k : KindHere src r kind) {s s₁ : List ℕ} {r₀ r₁ : State} where
@@ -163,7 +149,9 @@ module _ (x : ℕ) {s s′ : List ℕ} {n : ℕ} {r r′ : State} {kind : ℕ} (
   unfolding C.unlabelled
   unlabelled-test q d = picked kinds _ (λ src at h. rw (h ∙ q)) d
 
-  pub unlabelled-resultis : kind ≡ K.RESULTIS → Command (C.resultis (readers (within x))) s s′ n r r′ → Command (C.unlabelled (readers (within x))) s s′ n r r′
+  pub unlabelled-resultis :
+      kind ≡ K.RESULTIS → Command (C.resultis (readers (within x))) s s′ n r r′
+      → Command (C.unlabelled (readers (within x))) s s′ n r r′
   unfolding C.unlabelled isGuard member
   unlabelled-resultis q d = picked kinds _ (λ src at h. rw (h ∙ q)) d
 
@@ -171,7 +159,9 @@ module _ (x : ℕ) {s s′ : List ℕ} {n : ℕ} {r r′ : State} {kind : ℕ} (
   unfolding C.unlabelled isGuard member
   unlabelled-for q d = picked kinds _ (λ src at h. rw (h ∙ q)) d
 
-  pub unlabelled-switchon : kind ≡ K.SWITCHON → Command (C.switchon (readers (within x))) s s′ n r r′ → Command (C.unlabelled (readers (within x))) s s′ n r r′
+  pub unlabelled-switchon :
+      kind ≡ K.SWITCHON → Command (C.switchon (readers (within x))) s s′ n r r′
+      → Command (C.unlabelled (readers (within x))) s s′ n r r′
   unfolding C.unlabelled isGuard member
   unlabelled-switchon q d = picked kinds _ (λ src at h. rw (h ∙ q)) d
 

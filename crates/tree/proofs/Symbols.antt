@@ -1,5 +1,5 @@
 -- Laws of the symbols that stand in scratch.
-use Rattle.laws.proofs.Basics.{ℕ, _+_, _*_, _<_, _≤_, _≡_, refl, sym, ap, _∙_, List, [], append-nil, Bool, true, false, cond, getD, take}
+use Rattle.laws.proofs.Basics.{ℕ, _+_, _*_, _<_, _≤_, _≡_, refl, sym, ap, subst, _∙_, List, [], append-nil, Bool, true, false, cond, getD, take}
 use Rattle.laws.proofs.Basics.{List·getD-eq-default, getD-take, eqb, ltb, arith, eqb-true, eq-eqb, ne-eqb, ltb-true, ltb-false}
 use Rattle.laws.proofs.Cases.{by-cases, contradiction}
 use Rattle.language.specs.Symbols.{Symbol}
@@ -99,8 +99,14 @@ pub stays : {r : State} → Passes r r
 stays {r = Read at free} = record { by = tt }
 stays {r = Refused k p} = record { by = refl }
 
+-- the last part, and the tree that is made of it
+pub ends :
+    {A C : Type 0} {read : ℕ → Out A} (F : A → C) {enc : A → List ℕ} {Says : C → List ℕ → Type 0} {s s′ : List ℕ} {r r′ : State}
+    → Reads read enc s s′ r r′ → ((a : A) → Says (F a) (enc a)) → Follows (λ m. onOut (read m) (λ a q. ok (F a) q)) Says s s′ r r′
+ends F {enc} {Says} d h = bind 0 enc d stays (λ a _. nothing (subst (Says (F a)) (sym (append-nil (enc a))) (h a)))
+
 -- a tree in another form
 pub mapped :
     {A C : Type 0} {read : ℕ → Out A} (F : A → C) {enc : A → List ℕ} {enc′ : C → List ℕ} {s s′ : List ℕ} {r r′ : State}
     → ((a : A) → enc′ (F a) ≡ enc a) → Reads read enc s s′ r r′ → Follows (λ m. onOut (read m) (λ a q. ok (F a) q)) (Encodes enc′) s s′ r r′
-mapped F {enc} {enc′} h d = bind 0 enc d stays (λ a q. nothing (record { same = append-nil (enc a) ∙ sym (h a) }))
+mapped F h d = ends F d (λ a. record { same = sym (h a) })
