@@ -1,9 +1,9 @@
 -- Laws of the symbols that stand in scratch.
-use Rattle.laws.proofs.Basics.{ℕ, _+_, _*_, _<_, _≤_, _≡_, refl, sym, ap, subst, _∙_, List, [], append-nil, Bool, true, false, cond, getD, take}
+use Rattle.laws.proofs.Basics.{ℕ, _+_, _*_, _<_, _≤_, _≡_, refl, sym, ap, subst, _∙_, List, [], append-nil, Bool, cond, getD, take}
 use Rattle.laws.proofs.Basics.{List·getD-eq-default, getD-take, eqb, ltb, arith, eqb-true, eq-eqb, ne-eqb, ltb-true, ltb-false}
 use Rattle.laws.proofs.Cases.{by-cases, contradiction}
 use Rattle.language.specs.Symbols.{Symbol}
-use Rattle.language.specs.Reader.{Source, Out, ok, no, onOut, kindAt, valueAt, placeAt, is, unexpected, the}
+use Rattle.language.specs.Reader.{Source, Out, ok, no, onOut, kindAt, placeAt, is, unexpected, the}
 use Rattle.tree.specs.Reads.{HoldsSymbols, Here, KindHere, Follows, Encodes, Reads, Passes, nextOf}
 use Rattle.tree.proofs.Steps.{bind, here, nothing}
 use Rattle.tree.specs.declared.scratch.State.{State}

@@ -9,7 +9,6 @@ use Rattle.tree.proofs.Lists.{Before}
 use Rattle.tree.proofs.Steps.{pair}
 use Rattle.tree.proofs.declarations.declarations.Statement.{statement}
 use Rattle.tree.proofs.declarations.declarations.Tie as tie
-use Rattle.tree.proofs.Steps.{pair}
 
 abbrev Inv-loop : tie.InvT-loop
 Inv-loop s₀ n turns₀ a₀ s turns a =

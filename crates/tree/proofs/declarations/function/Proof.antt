@@ -2,12 +2,11 @@ use Rattle.laws.proofs.Basics.{ℕ, refl, ap, _∙_, arith, needs}
 use Rattle.tree.proofs.Helpers.{low}
 use Rattle.tree.specs.Reads.{freeOf}
 use Rattle.tree.proofs.Programs.{function-here}
-use Rattle.tree.proofs.Rooms.{freed, size-small, ready-leaves, ready-takes, ready-part, item-low}
+use Rattle.tree.proofs.Rooms.{freed, size-small, ready-leaves, ready-takes, ready-part, item-low, for-size}
 use Rattle.tree.proofs.Steps.{pair}
 use Rattle.tree.proofs.declarations.function.Statement.{statement}
 use Rattle.tree.proofs.declarations.function.Tie as tie
 use Rattle.tree.proofs.Wholes.{leaves, _writing_, _with_, _setting_}
-use Rattle.tree.proofs.Rooms.{for-size}
 
 pub function-spec : {M : Type 1} → statement M
 function-spec =

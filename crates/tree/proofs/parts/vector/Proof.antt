@@ -1,12 +1,10 @@
 use Rattle.tree.proofs.Steps.{goes-on, adds-on, _then_, pair}
 use Rattle.laws.proofs.Basics.{refl, arith, needs}
 use Rattle.tree.proofs.Lets.{vector-read}
-use Rattle.tree.proofs.Rooms.{measured, ready-leaves}
+use Rattle.tree.proofs.Rooms.{measured, ready-leaves, size-small}
 use Rattle.tree.proofs.parts.vector.Statement.{statement}
 use Rattle.tree.proofs.parts.vector.Tie as tie
 use Rattle.tree.proofs.Wholes.{leaves, _from_, _with_, _adding_}
-use Rattle.tree.proofs.Rooms.{size-small}
-use Rattle.tree.proofs.Steps.{pair}
 
 pub vector-spec : {M : Type 1} → statement M
 vector-spec =

@@ -15,8 +15,7 @@ use Rattle.tree.proofs.Lists.{Before}
 use Rattle.tree.proofs.Loops.{SoFar, before-first, before-next, before-last, wordless, so-begins, many-turns, many-ends, many-spent}
 use Rattle.tree.proofs.Loops.{list-spents, list-ends, list-semicolon-ends, list-goes-on}
 use Rattle.tree.proofs.Rooms.{for-size, past-symbol, past-part, past-expression, left, taken, room-left, room-taken, takes-more, takes-none}
-use Rattle.tree.proofs.Rooms.{ready-leaves, ready-takes, _plus_, _less_}
-use Rattle.tree.proofs.Rooms.{ready-part, item-low, size-small, freed, measured}
+use Rattle.tree.proofs.Rooms.{ready-leaves, ready-takes, _plus_, _less_, ready-part, item-low, size-small, freed, measured}
 use Rattle.tree.proofs.Steps.{pair, goes-on, adds-on, _then_}
 use Rattle.tree.proofs.Symbols.{lies-still}
 use Rattle.tree.specs.Encoding.{encodeCommands, encodeLocals}

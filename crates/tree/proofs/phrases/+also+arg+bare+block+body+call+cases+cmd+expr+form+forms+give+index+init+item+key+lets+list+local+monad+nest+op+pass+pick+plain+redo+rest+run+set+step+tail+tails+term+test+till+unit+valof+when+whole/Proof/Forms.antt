@@ -16,8 +16,7 @@ use Rattle.tree.proofs.Helpers.{low-past}
 use Rattle.tree.proofs.Lists.{Before}
 use Rattle.tree.proofs.Loops.{SoFar, before-first, before-next, before-last, wordless, so-begins, many-turns, many-ends, many-spent}
 use Rattle.tree.proofs.Rooms.{past-symbol, past-part, past-expression, left, room-left, ready-leaves, ready-takes, _plus_, _less_, ready-part}
-use Rattle.tree.proofs.Rooms.{item-low, size-small}
-use Rattle.tree.proofs.Rooms.{measured}
+use Rattle.tree.proofs.Rooms.{item-low, size-small, measured}
 use Rattle.tree.proofs.Steps.{pair, goes-on, adds-on, refuses-on, _then_}
 use Rattle.tree.proofs.Symbols.{lies-still}
 use Rattle.tree.specs.Encoding.{encodeRepeats}

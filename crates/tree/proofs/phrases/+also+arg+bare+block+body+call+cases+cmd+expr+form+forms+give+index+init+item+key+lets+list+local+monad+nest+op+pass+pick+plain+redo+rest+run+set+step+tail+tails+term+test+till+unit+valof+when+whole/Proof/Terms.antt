@@ -19,8 +19,7 @@ use Rattle.tree.proofs.Loops.{SoFar, before-first, before-last, wordles
 use Rattle.tree.proofs.Readers.{bracketed-read, valof-read, argument-read, index-read, arguments-read, no-arguments, some-arguments}
 use Rattle.tree.proofs.Readers.{further-reads}
 use Rattle.tree.proofs.Rooms.{past-symbol, past-part, past-expression, left, taken, room-left, leaves-less, ready-leaves, ready-takes, _plus_}
-use Rattle.tree.proofs.Rooms.{ready-part}
-use Rattle.tree.proofs.Rooms.{item-low, size-small, measured}
+use Rattle.tree.proofs.Rooms.{ready-part, item-low, size-small, measured}
 use Rattle.tree.proofs.Steps.{pair, again}
 use Rattle.tree.proofs.Symbols.{lies-still}
 use Rattle.tree.specs.Between.{aFurther}
