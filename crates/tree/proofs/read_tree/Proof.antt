@@ -11,20 +11,17 @@ read-tree-spec =
     (λ c κs. starts _ _ (sym (c .before .before .too-short .ensures) ∙ c .before .if1 .left)) (search needs)
     (λ c κs. let free = c .before .before in let program = free .before .before .before .before in let if1 = program .before .before in
     let too-short = if1 .before in let inside = end-inside (sym (too-short .too-short .ensures) ∙ if1 .if1 .left) (program .program .ensures .0)
-    (free .free .given .1) in omega arith)
-    (search needs)
+    (free .free .given .1) in omega arith) (search needs)
     (λ c κs. let program = c .before .before .before .before .before .before in let if1 = program .before .before in let too-short = if1 .before in
     let start = too-short .before .before .before in let h = starts (start .args .scratch .now) (start .args .count) (sym
     (too-short .too-short .ensures) ∙ if1 .if1 .left) in omega (arith, h .wide, program .program .kept .0))
     (λ c κs. let program = c .before .before .before .before .before .before .before .before in let if1 = program .before .before in
     let too-short = if1 .before in let start = too-short .before .before .before in let h = starts (start .args .scratch .now) (start .args .count)
-    (sym (too-short .too-short .ensures) ∙ if1 .if1 .left) in omega (arith, h .wide, program .program .kept .0))
-    (search needs)
+    (sym (too-short .too-short .ensures) ∙ if1 .if1 .left) in omega (arith, h .wide, program .program .kept .0)) (search needs)
     (λ c. let clear-from = c .before .before in let free = clear-from .before .before .before in let program = free .before .before .before .before in
     let if1 = program .before .before in let too-short = if1 .before in tree-read (sym (too-short .too-short .ensures) ∙ if1 .if1 .left)
     (program .program .kept .0) (program .program .ensures .1 _ (lies _ _ _)) (program .program .ensures .0) (free .free .given .1)
-    (clear-from .clear-from .ensures))
-    (search needs)
+    (clear-from .clear-from .ensures)) (search needs)
     (λ c. let clear-from2 = c .before .before in let place-at = clear-from2 .before .before in let number = place-at .before .before .before in
     let program = number .before .before .before .before in let if1 = program .before .before in let too-short = if1 .before in tree-refused (sym
     (too-short .too-short .ensures) ∙ if1 .if1 .left) (program .program .kept .0) (program .program .ensures .1 _ (lies _ _ _))

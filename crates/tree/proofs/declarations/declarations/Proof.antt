@@ -29,9 +29,8 @@ declarations-spec =
       λ src l k.
           declared .declared .ensures .1 src l k (sym (is-declaration .is-declaration .ensures) ∙ if1 .if1 .taken),
     ) (declared .declared .kept .0) (omega
-    arith))
-    (search needs)
+    arith)) (search needs)
     (λ c. let is-declaration = c .before in let kind-here = is-declaration .before in let in-loop = kind-here .before .before .before in many-ends _ _
     _ _ before-last (wordless no-program-words) refl (in-loop .loop .inv) (kind-here .kind-here .ensures) (sym
-    (is-declaration .is-declaration .ensures) ∙ c .if1 .left))
-    (search needs) (λ c. many-spent _ _ _ _ before-last (wordless no-program-words) refl (c .before .loop .inv) (omega arith)))
+    (is-declaration .is-declaration .ensures) ∙ c .if1 .left)) (search needs)
+    (λ c. many-spent _ _ _ _ before-last (wordless no-program-words) refl (c .before .loop .inv) (omega arith)))

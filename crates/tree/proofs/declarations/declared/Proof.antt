@@ -17,8 +17,7 @@ declared-spec =
     let expect = begin-item .before .before in let free-of = expect .before .before in let start = free-of .before .before .before in pair
     (ready-leaves (declaration .declaration .ensures .0) (declaration .declaration .kept .0) refl (ready-part (ready-takes {m = 2}
     (begin-item .begin-item .ensures .0) (begin-item .begin-item .kept .0) (ready-leaves (expect .expect .ensures .0) refl refl (start .pre .0)))
-    refl)) (item-low (free-of .free-of .ensures) (start .pre .0)))
-    (search needs) (search needs)
+    refl)) (item-low (free-of .free-of .ensures) (start .pre .0))) (search needs) (search needs)
     (λ c. let set-size = c .before .before .before .before in let declaration = set-size .before .before .before .before in
     let begin-item = declaration .before .before .before .before in let expect = begin-item .before .before in let free-of = expect .before .before in
     let start = free-of .before .before .before in leaves ((λ src l a b c d e k h. declared-read src _ k h (free-of .free-of .ensures) (low-past

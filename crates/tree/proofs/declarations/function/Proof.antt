@@ -20,8 +20,8 @@ function-spec =
     (λ c κs. let expect = c .before in let a-name = expect .before .before .before .before in
     let begin-item = a-name .before .before .before .before .before .before in let start = begin-item .before .before .before .before .before in
     ready-leaves (expect .expect .ensures .0) refl refl (ready-leaves (a-name .a-name .ensures .0) (a-name .a-name .kept .0) refl (ready-takes
-    (begin-item .begin-item .ensures .0) (begin-item .begin-item .kept .0) (start .pre))))
-    (λ c κs. search needs) (λ c κs. search needs) (λ c κs. search needs)
+    (begin-item .begin-item .ensures .0) (begin-item .begin-item .kept .0) (start .pre)))) (λ c κs. search needs) (λ c κs. search needs)
+    (λ c κs. search needs)
     (λ c. let minus = c .before in let free-of3 = minus .before .before .before in let parameters = free-of3 .before .before .before .before in
     let expect = parameters .before .before in let a-name = expect .before .before .before .before in
     let begin-item = a-name .before .before .before .before .before .before in let start = begin-item .before .before .before .before .before in let

@@ -27,8 +27,7 @@ case-label-spec =
     let free-of = expect .before .before .before .before in let start = free-of .before .before .before in pair (ready-takes (node .node .ensures .0)
     (node .node .kept .0) (ready-leaves (expect2 .expect2 .ensures .0) refl refl (ready-leaves (constant .constant .ensures .0)
     (constant .constant .kept .0) refl (ready-takes (begin-item .begin-item .ensures .0) (begin-item .begin-item .kept .0) (ready-leaves
-    (expect .expect .ensures .0) refl refl (start .pre)))))) (item-low (free-of .free-of .ensures) (start .pre)))
-    (search needs)
+    (expect .expect .ensures .0) refl refl (start .pre)))))) (item-low (free-of .free-of .ensures) (start .pre))) (search needs)
     (λ c. let set-size = c .before .before in let node = set-size .before .before .before .before in let expect2 = node .before .before in
     let constant = expect2 .before .before .before .before in let free-of2 = constant .before .before in
     let begin-item = free-of2 .before .before .before .before in let expect = begin-item .before .before in let place-here = expect .before .before in

@@ -24,10 +24,8 @@ labels-spec =
     (search needs) (λ c. omega arith)
     (λ c. let label = c .before .before in let if1 = label .before .before in let is-label = if1 .before in let kind-here = is-label .before in
     let in-loop = kind-here .before .before .before in many-turns _ _ _ _ before-next (in-loop .loop .inv) (kind-here .kind-here .ensures) (sym
-    (is-label .is-label .ensures) ∙ if1 .if1 .taken) (label .label .ensures) (label .label .kept .0) (omega arith))
-    (search needs)
+    (is-label .is-label .ensures) ∙ if1 .if1 .taken) (label .label .ensures) (label .label .kept .0) (omega arith)) (search needs)
     (λ c. let is-label = c .before in let kind-here = is-label .before in let in-loop = kind-here .before .before .before in
     let minus = in-loop .before in many-ends _ _ _ _ before-last (wordless no-label-words) (minus .minus .ensures) (in-loop .loop .inv)
-    (kind-here .kind-here .ensures) (sym (is-label .is-label .ensures) ∙ c .if1 .left))
-    (search needs)
+    (kind-here .kind-here .ensures) (sym (is-label .is-label .ensures) ∙ c .if1 .left)) (search needs)
     (λ c. many-spent _ _ _ _ before-last (wordless no-label-words) (c .before .before .minus .ensures) (c .before .loop .inv) (omega arith)))

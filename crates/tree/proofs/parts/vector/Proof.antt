@@ -14,8 +14,7 @@ vector-spec =
     arith)
     (λ c κs. let constant = c .before .before .before in let expect = constant .before .before in
     let start = expect .before .before .before .before .before .before in ready-leaves (constant .constant .ensures .0) (constant .constant .kept .0)
-    refl (ready-leaves (expect .expect .ensures .0) refl refl (start .pre)))
-    (search needs)
+    refl (ready-leaves (expect .expect .ensures .0) refl refl (start .pre))) (search needs)
     (λ c. let node = c .before .before in let constant = node .before .before .before .before in let expect = constant .before .before in
     let minus = expect .before .before in let free-of = minus .before in leaves ((λ src l a b d. pair (goes-on a then goes-on b then adds-on d) (λ
     name q. vector-read src _ _ name _ q (measured _ _ (minus .minus .ensures) (free-of .free-of .ensures) refl) a b d)) from expect .expect .ensures

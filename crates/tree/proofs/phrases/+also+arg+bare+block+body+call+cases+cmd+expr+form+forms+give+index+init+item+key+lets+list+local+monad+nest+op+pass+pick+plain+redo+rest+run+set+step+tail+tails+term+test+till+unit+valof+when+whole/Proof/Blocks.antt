@@ -104,8 +104,7 @@ item-ok t =
     (c .before .before .before .begin-item .ensures .0)))
     (λ c κs. let cmd = c .before .before .before in let begin-item = cmd .before .before .before .before in
     let free-of = begin-item .before .before in pair (past-part refl (cmd .cmd .ensures) (cmd .cmd .kept .0)) (item-low (free-of .free-of .ensures .1)
-    (ready-part (begin-item .begin-item .ensures .0) refl)))
-    (λ c. search needs)
+    (ready-part (begin-item .begin-item .ensures .0) refl))) (λ c. search needs)
     (λ c. let set-size = c .before .before in let cmd = set-size .before .before .before .before in
     let begin-item = cmd .before .before .before .before in let free-of = begin-item .before .before in takes ((λ src l. listed-read src _ _
     (free-of .free-of .ensures .1) (low (begin-item .begin-item .ensures .0))) writing begin-item .begin-item .ensures .1 with cmd .cmd .ensures .1
@@ -152,13 +151,11 @@ till-ok t =
     cycle.Lts-till.spec (till-cs t .claims) (at till-rank t) (till-rank .post) (λ c κs. omega arith) (λ c κs. omega arith) (λ c κs. omega arith)
     (λ c κs. pair (past-symbol refl (c .before .expect2 .ensures)) (omega arith)) (λ c κs. omega arith)
     (λ c κs. pair (omega arith) (ready-takes (c .before .before .before .item .ensures .1 .0) (c .before .before .before .item .kept .0)
-    (c .before .before .before .item .ensures .0 .1)))
-    (λ c. search needs)
+    (c .before .before .before .item .ensures .0 .1))) (λ c. search needs)
     (λ c. no-commands _ (c .before .before .before .kind-here .ensures .1) (c .before .before .match .keys1) (c .expect .ensures .1))
     (λ c. search needs)
     (λ c. semicolon-commands _ (c .before .before .before .before .before .kind-here .ensures .1) (c .before .before .before .before .match .keys2)
-    (c .before .before .expect2 .ensures .1) (c .expect3 .ensures .1))
-    (λ c. search needs)
+    (c .before .before .expect2 .ensures .1) (c .expect3 .ensures .1)) (λ c. search needs)
     (λ c. let list = c .before .before in let item = list .before .before .before .before in let after-match = item .before .before in
     let kind-here = after-match .before in some-commands _ (kind-here .kind-here .ensures .1) (after-match .match .rest) (item .item .ensures .1)
     (list .list .ensures .1))
@@ -176,8 +173,7 @@ block-ok t =
     (λ c. let till = c .before .before .before in let minus = till .before .before in let free-of2 = minus .before in let small = size-small _
     (minus .minus .ensures .1) (free-of2 .free-of2 .ensures .1) (ready-part (till .till .ensures .0 .1) refl) in omega arith)
     (λ c κs. ready-leaves (c .before .before .before .till .ensures .1 .0) (c .before .before .before .till .kept .0) refl (ready-part
-    (c .before .before .before .till .ensures .0 .1) refl))
-    (λ c. search needs)
+    (c .before .before .before .till .ensures .0 .1) refl)) (λ c. search needs)
     (λ c. let node = c .before .before in let till = node .before .before .before .before in let minus = till .before .before in
     let free-of2 = minus .before in let lets = free-of2 .before .before .before .before in let expect = lets .before .before in
     let free-of = expect .before .before in leaves ((λ src l a b c. block-read l _ _ (free-of .free-of .ensures .1) a b c (measured _ _
@@ -207,8 +203,8 @@ lets-ok t =
     (λ c. omega arith) (λ c. omega arith)
     (λ c. let local = c .before .before in let if1 = local .before .before in let kind-here = if1 .before in
     let in-loop = kind-here .before .before .before in many-turns _ _ _ _ before-next (in-loop .loop .inv) (kind-here .kind-here .ensures .1) (eq-eqb
-    _ _ (if1 .if1 .left)) (at-any (local .local .ensures .1)) (local .local .kept .0) (omega arith))
-    (λ c. search needs) (λ c. many-spent _ _ _ _ before-last (wordless no-local-words) refl (c .before .loop .inv) (omega arith))
+    _ _ (if1 .if1 .left)) (at-any (local .local .ensures .1)) (local .local .kept .0) (omega arith)) (λ c. search needs)
+    (λ c. many-spent _ _ _ _ before-last (wordless no-local-words) refl (c .before .loop .inv) (omega arith))
 
 abbrev pub local-cs : ℕ → Calls cycle.Lts-local.Claims
 local-cs t = calls-9 free-of expect begin-item a-name further-names minus (below init-rank t) optional set-size
@@ -280,16 +276,14 @@ init-ok t =
       arith,
       q,
       v .1,
-    ))))))))
-    (λ c κs. tt) (λ c κs. tt) (λ c κs. omega arith)
+    )))))))) (λ c κs. tt) (λ c κs. tt) (λ c κs. omega arith)
     (λ c κs. pair (omega arith) (ready-takes (c .before .before .before .arg .ensures .1 .0) (c .before .before .before .arg .kept .0) (ready-part
     (c .before .before .before .arg .ensures .0 .1) refl)))
     (λ c. let arg = c .before .before .before .before .before .before .before in let minus = arg .before .before in let free-of = minus .before in let
     small = size-small _ (minus .minus .ensures .1) (free-of .free-of .ensures .1) (ready-part (arg .arg .ensures .0 .1) refl) in omega arith)
     (λ c κs. let rest = c .before .before .before in let arg = rest .before .before .before .before in
     let start = arg .before .before .before .before .before .before .before .before .before .before in ready-leaves (rest .rest .ensures .1 .0)
-    (rest .rest .kept .0) refl (ready-takes (arg .arg .ensures .1 .0) (arg .arg .kept .0) (start .pre .1)))
-    (λ c. search needs)
+    (rest .rest .kept .0) refl (ready-takes (arg .arg .ensures .1 .0) (arg .arg .kept .0) (start .pre .1))) (λ c. search needs)
     (λ c. let node = c .before .before in let rest = node .before .before .before .before in let arg = rest .before .before .before .before in
     let minus = arg .before .before in let free-of = minus .before in let if1 = free-of .before .before in let is-vector = if1 .before in
     let kind-here = is-vector .before in let start = kind-here .before .before .before in pair (room-taken (taken (arg .arg .ensures .1 .0) plus
