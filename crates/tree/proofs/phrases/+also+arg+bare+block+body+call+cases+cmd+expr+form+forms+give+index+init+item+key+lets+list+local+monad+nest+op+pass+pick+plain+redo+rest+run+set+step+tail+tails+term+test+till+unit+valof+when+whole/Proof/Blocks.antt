@@ -3,7 +3,7 @@ use Rattle.tree.proofs.phrases.+also+arg+bare+block+body+call+cases+cmd
 use Rattle.language.specs.Kinds as K
 use Rattle.language.specs.Tree as T
 use Rattle.language.specs.Commands as C
-use Rattle.laws.proofs.Basics.{ℕ, _+_, refl, sym, ap, _∙_, eqb, arith, needs, eq-eqb, ne-eqb}
+use Rattle.laws.proofs.Basics.{ℕ, _+_, refl, sym, ap, _∙_, eqb, arith, eq-eqb, ne-eqb}
 use Rattle.language.specs.Grammar.{within, readers}
 use Rattle.language.specs.Reader.{manyUpTo, moreUpTo}
 use Rattle.tree.proofs.Blocks.{for-read, switchon-read, block-read, listed-read, no-command-words, no-commands, semicolon-commands}
@@ -104,7 +104,7 @@ item-ok t =
     (c .before .before .before .begin-item .ensures .0)))
     (λ c κs. let cmd = c .before .before .before in let begin-item = cmd .before .before .before .before in
     let free-of = begin-item .before .before in pair (past-part refl (cmd .cmd .ensures) (cmd .cmd .kept .0)) (item-low (free-of .free-of .ensures .1)
-    (ready-part (begin-item .begin-item .ensures .0) refl))) (λ c. search needs)
+    (ready-part (begin-item .begin-item .ensures .0) refl))) (λ c. omega arith)
     (λ c. let set-size = c .before .before in let cmd = set-size .before .before .before .before in
     let begin-item = cmd .before .before .before .before in let free-of = begin-item .before .before in takes ((λ src l. listed-read src _ _
     (free-of .free-of .ensures .1) (low (begin-item .begin-item .ensures .0))) writing begin-item .begin-item .ensures .1 with cmd .cmd .ensures .1
@@ -125,11 +125,11 @@ pub list-ok : {M : Type 1} (t : ℕ) → cycle.Lts-list.Closed (list-cs t .claim
 list-ok t =
     cycle.Lts-list.spec (list-cs t .claims) (at list-rank t) (list-rank .post) list-inv list-turns (λ c. so-begins (c .before .pre .1) before-first)
     (λ c κs. ready-leaves (c .before .before .loop .inv .room) (c .before .before .loop .inv .same) refl (c .before .before .before .before .pre .1))
-    (λ c κs. pair (c .before .before .kind-here .ensures .0) (omega arith)) (λ c. search needs)
+    (λ c κs. pair (c .before .before .kind-here .ensures .0) (omega arith)) (λ c. omega arith)
     (λ c. let if1 = c .before .before in let kind-here = if1 .before in let in-loop = kind-here .before .before .before in list-ends _ _ _
     (in-loop .loop .inv) (kind-here .kind-here .ensures .1) no-command-words (if1 .if1 .taken) (c .expect .ensures .1) (omega arith))
     (λ c κs. pair (c .before .before .kind-here .ensures .0) (omega arith)) (λ c κs. past-symbol refl (c .before .expect2 .ensures))
-    (λ c κs. pair (c .before .before .kind-here2 .ensures .0) (omega arith)) (λ c. search needs)
+    (λ c κs. pair (c .before .before .kind-here2 .ensures .0) (omega arith)) (λ c. omega arith)
     (λ c. let if2 = c .before .before in let kind-here2 = if2 .before in let expect2 = kind-here2 .before .before in
     let if1 = expect2 .before .before in let kind-here = if1 .before in let in-loop = kind-here .before .before .before in list-semicolon-ends _ _ _
     (in-loop .loop .inv) (kind-here .kind-here .ensures .1) no-command-words (if1 .if1 .left) (expect2 .expect2 .ensures .1)
@@ -141,7 +141,7 @@ list-ok t =
     (expect2 .expect2 .ensures .1) (kind-here2 .kind-here2 .ensures .1) (if2 .if2 .left) (takes-more (item .item .ensures .1 .0) refl)
     (item .item .kept .0) (item .item .ensures .1 .1) (omega arith))
     (λ c κs. ready-leaves (c .before .before .loop .inv .room) (c .before .before .loop .inv .same) refl (c .before .before .before .before .pre .1))
-    (λ c. search needs) (λ c. list-spents _ _ _ (c .before .before .before .loop .inv) (c .refuse .ensures .1) (omega arith))
+    (λ c. omega arith) (λ c. list-spents _ _ _ (c .before .before .before .loop .inv) (c .refuse .ensures .1) (omega arith))
 
 abbrev pub till-cs : ℕ → Calls cycle.Lts-till.Claims
 till-cs t = calls-4 kind-here expect (below item-rank t) (below list-rank t)
@@ -151,11 +151,11 @@ till-ok t =
     cycle.Lts-till.spec (till-cs t .claims) (at till-rank t) (till-rank .post) (λ c κs. omega arith) (λ c κs. omega arith) (λ c κs. omega arith)
     (λ c κs. pair (past-symbol refl (c .before .expect2 .ensures)) (omega arith)) (λ c κs. omega arith)
     (λ c κs. pair (omega arith) (ready-takes (c .before .before .before .item .ensures .1 .0) (c .before .before .before .item .kept .0)
-    (c .before .before .before .item .ensures .0 .1))) (λ c. search needs)
+    (c .before .before .before .item .ensures .0 .1))) (λ c. omega arith)
     (λ c. no-commands _ (c .before .before .before .kind-here .ensures .1) (c .before .before .match .keys1) (c .expect .ensures .1))
-    (λ c. search needs)
+    (λ c. omega arith)
     (λ c. semicolon-commands _ (c .before .before .before .before .before .kind-here .ensures .1) (c .before .before .before .before .match .keys2)
-    (c .before .before .expect2 .ensures .1) (c .expect3 .ensures .1)) (λ c. search needs)
+    (c .before .before .expect2 .ensures .1) (c .expect3 .ensures .1)) (λ c. omega arith)
     (λ c. let list = c .before .before in let item = list .before .before .before .before in let after-match = item .before .before in
     let kind-here = after-match .before in some-commands _ (kind-here .kind-here .ensures .1) (after-match .match .rest) (item .item .ensures .1)
     (list .list .ensures .1))
@@ -173,7 +173,7 @@ block-ok t =
     (λ c. let till = c .before .before .before in let minus = till .before .before in let free-of2 = minus .before in let small = size-small _
     (minus .minus .ensures .1) (free-of2 .free-of2 .ensures .1) (ready-part (till .till .ensures .0 .1) refl) in omega arith)
     (λ c κs. ready-leaves (c .before .before .before .till .ensures .1 .0) (c .before .before .before .till .kept .0) refl (ready-part
-    (c .before .before .before .till .ensures .0 .1) refl)) (λ c. search needs)
+    (c .before .before .before .till .ensures .0 .1) refl)) (λ c. omega arith)
     (λ c. let node = c .before .before in let till = node .before .before .before .before in let minus = till .before .before in
     let free-of2 = minus .before in let lets = free-of2 .before .before .before .before in let expect = lets .before .before in
     let free-of = expect .before .before in leaves ((λ src l a b c. block-read l _ _ (free-of .free-of .ensures .1) a b c (measured _ _
@@ -195,7 +195,7 @@ pub lets-ok : {M : Type 1} (t : ℕ) → cycle.Lts-lets.Closed (lets-cs t .claim
 lets-ok t =
     cycle.Lts-lets.spec (lets-cs t .claims) (at lets-rank t) (lets-rank .post) lets-inv lets-turns (λ c. so-begins (c .before .pre .1) before-first)
     (λ c κs. ready-leaves (c .before .before .loop .inv .room) (c .before .before .loop .inv .same) refl (c .before .before .before .before .pre .1))
-    (λ c. search needs)
+    (λ c. omega arith)
     (λ c. many-ends _ _ _ _ before-last (wordless no-local-words) refl (c .before .before .before .before .loop .inv)
     (c .before .kind-here .ensures .1) (ne-eqb _ _ (c .if1 .taken)))
     (λ c κs. pair (omega arith) (ready-leaves (c .before .before .before .before .before .loop .inv .room)
@@ -203,7 +203,7 @@ lets-ok t =
     (λ c. omega arith) (λ c. omega arith)
     (λ c. let local = c .before .before in let if1 = local .before .before in let kind-here = if1 .before in
     let in-loop = kind-here .before .before .before in many-turns _ _ _ _ before-next (in-loop .loop .inv) (kind-here .kind-here .ensures .1) (eq-eqb
-    _ _ (if1 .if1 .left)) (at-any (local .local .ensures .1)) (local .local .kept .0) (omega arith)) (λ c. search needs)
+    _ _ (if1 .if1 .left)) (at-any (local .local .ensures .1)) (local .local .kept .0) (omega arith)) (λ c. omega arith)
     (λ c. many-spent _ _ _ _ before-last (wordless no-local-words) refl (c .before .loop .inv) (omega arith))
 
 abbrev pub local-cs : ℕ → Calls cycle.Lts-local.Claims
@@ -264,7 +264,7 @@ init-cs t = calls-8 kind-here is-vector vector free-of minus (below arg-rank t) 
 pub init-ok : {M : Type 1} (t : ℕ) → cycle.Lts-init.Closed (init-cs t .claims) (at init-rank t) (init-rank .post) M
 init-ok t =
     cycle.Lts-init.spec (init-cs t .claims) (at init-rank t) (init-rank .post) (λ c κs. omega arith) (λ c κs. tt) (λ c κs. omega arith)
-    (λ c. search needs)
+    (λ c. omega arith)
     (λ c. let vector = c .before .before in let if1 = vector .before .before in let is-vector = if1 .before in let kind-here = is-vector .before in
     let start = kind-here .before .before .before in let v = vector-is (kind-here .kind-here .result) (start .args .further) (sym
     (is-vector .is-vector .ensures .1) ∙ if1 .if1 .taken) in pair (takes-none (vector .vector .ensures .1 .0)) (λ src l. pair
@@ -283,7 +283,7 @@ init-ok t =
     small = size-small _ (minus .minus .ensures .1) (free-of .free-of .ensures .1) (ready-part (arg .arg .ensures .0 .1) refl) in omega arith)
     (λ c κs. let rest = c .before .before .before in let arg = rest .before .before .before .before in
     let start = arg .before .before .before .before .before .before .before .before .before .before in ready-leaves (rest .rest .ensures .1 .0)
-    (rest .rest .kept .0) refl (ready-takes (arg .arg .ensures .1 .0) (arg .arg .kept .0) (start .pre .1))) (λ c. search needs)
+    (rest .rest .kept .0) refl (ready-takes (arg .arg .ensures .1 .0) (arg .arg .kept .0) (start .pre .1))) (λ c. omega arith)
     (λ c. let node = c .before .before in let rest = node .before .before .before .before in let arg = rest .before .before .before .before in
     let minus = arg .before .before in let free-of = minus .before in let if1 = free-of .before .before in let is-vector = if1 .before in
     let kind-here = is-vector .before in let start = kind-here .before .before .before in pair (room-taken (taken (arg .arg .ensures .1 .0) plus

@@ -2,7 +2,7 @@
 use Rattle.tree.proofs.phrases.+also+arg+bare+block+body+call+cases+cmd+expr+form+forms+give+index+init+item+key+lets+list+local+monad+nest+op+pass+pick+plain+redo+rest+run+set+step+tail+tails+term+test+till+unit+valof+when+whole as cycle
 use Rattle.language.specs.Tree as T
 use Rattle.language.specs.Expressions as E
-use Rattle.laws.proofs.Basics.{ℕ, refl, sym, _∙_, eqb, arith, needs, eq-eqb, ne-eqb}
+use Rattle.laws.proofs.Basics.{ℕ, refl, sym, _∙_, eqb, arith, eq-eqb, ne-eqb}
 use Rattle.language.specs.Binding.{bindingOf}
 use Rattle.language.specs.Grammar.{within}
 use Rattle.language.specs.Reader.{manyUpTo}
@@ -29,16 +29,16 @@ expr-cs t =
 
 pub expr-ok : {M : Type 1} (t : ℕ) → cycle.Lts-expr.Closed (expr-cs t .claims) (at expr-rank t) (expr-rank .post) M
 expr-ok t =
-    cycle.Lts-expr.spec (expr-cs t .claims) (at expr-rank t) (expr-rank .post) (λ c κs. omega arith) (λ c. search needs)
+    cycle.Lts-expr.spec (expr-cs t .claims) (at expr-rank t) (expr-rank .post) (λ c κs. omega arith) (λ c. omega arith)
     (λ c. expression-none _ _ (c .before .before .before .before .if1 .taken) (c .before .before .term .ensures .1)) (λ c κs. omega arith)
-    (λ c κs. (omega arith, (c .before .before .before .before .before .before .before .pre .1 .0, omega arith))) (λ c. search needs)
+    (λ c κs. (omega arith, (c .before .before .before .before .before .before .before .pre .1 .0, omega arith))) (λ c. omega arith)
     (λ c. let monad = c .before .before in let if3 = monad .before .before in let kind-here = if3 .before in let if2 = kind-here .before .before in
     expression-not _ (kind-here .kind-here .ensures .1) _ (if2 .if2 .taken) (if3 .if3 .taken) (monad .monad .ensures .1)) (λ c. omega arith)
-    (λ c κs. omega arith) (λ c. search needs)
+    (λ c κs. omega arith) (λ c. omega arith)
     (λ c. let expr = c .before .before in let if3 = expr .before .before in let kind-here = if3 .before in let if2 = kind-here .before .before in
     expression-shift _ (kind-here .kind-here .ensures .1) _ (if2 .if2 .taken) (if3 .if3 .left) (expr .expr .ensures .1)) (λ c κs. tt)
     (λ c. omega arith) (λ c κs. omega arith) (λ c κs. let e = c .before .before .before .expr2 in past-expression refl (e .ensures) (e .kept .0))
-    (λ c κs. tt) (λ c. search needs)
+    (λ c κs. tt) (λ c. omega arith)
     (λ c. let binding-of = c .before in let kind-here2 = binding-of .before in let expr2 = kind-here2 .before .before .before .before in
     let if2 = expr2 .before .before .before .before in let if1 = if2 .before in let start = if1 .before .before in leaves ((λ src l d. let l₁ =
     lies-still l (expr2 .expr2 .ensures .1 .0 .kept) in expression-one l₁ 0 _ _ (if1 .if1 .left) (if2 .if2 .left) (start .pre .1 .1)
@@ -87,7 +87,7 @@ op-ok t =
     (c .before .before .before .begin-item .kept .0) (c .before .before .before .begin-item .ensures .0)) (omega arith)))
     (λ c κs. let expr = c .before .before .before in let expect = expr .before .before .before .before .before .before in
     let free-of = expect .before .before in pair (past-expression refl (expr .expr .ensures) (expr .expr .kept .0)) (item-low
-    (free-of .free-of .ensures .1) (expect .expect .ensures .0 .0))) (λ c. search needs)
+    (free-of .free-of .ensures .1) (expect .expect .ensures .0 .0))) (λ c. omega arith)
     (λ c. let set-size = c .before .before in let expr = set-size .before .before .before .before in
     let begin-item = expr .before .before .before .before in let expect = begin-item .before .before in let free-of = expect .before .before in leaves
     ((λ src l w x y z k. operation-read src _ _ (free-of .free-of .ensures .1) _ (low-past (expect .expect .ensures .0 .0)
@@ -111,7 +111,7 @@ run-ok t =
     cycle.Lts-run.spec (run-cs t .claims) (at run-rank t) (run-rank .post) run-inv run-turns (λ c κs. tt)
     (λ c. so-begins (c .before .before .pre .1 .0) before-first)
     (λ c κs. ready-leaves (c .before .before .loop .inv .room) (c .before .before .loop .inv .same) refl
-    (c .before .before .before .before .before .pre .1 .0)) (λ c κs. tt) (λ c. search needs)
+    (c .before .before .before .before .before .pre .1 .0)) (λ c κs. tt) (λ c. omega arith)
     (λ c. let binding-of = c .before in let kind-here = binding-of .before in let in-loop = kind-here .before .before .before in
     let further-most = in-loop .before in many-ends _ _ _ _ before-last (wordless no-operation-words) (further-most .further-most .ensures .1)
     (in-loop .loop .inv) (kind-here .kind-here .ensures .1) (ne-eqb _ _ (λ z. c .if1 .taken (binding-of .binding-of .ensures .1 ∙ z))))
@@ -121,7 +121,7 @@ run-ok t =
     (λ c. omega arith)
     (λ c. let op = c .before .before in let if1 = op .before .before in let binding-of = if1 .before in let kind-here = binding-of .before in
     let in-loop = kind-here .before .before .before in many-turns _ _ _ _ before-next (in-loop .loop .inv) (kind-here .kind-here .ensures .1) (eq-eqb
-    _ _ (sym (binding-of .binding-of .ensures .1) ∙ if1 .if1 .left)) (op .op .ensures .1) (op .op .kept .0) (omega arith)) (λ c. search needs)
+    _ _ (sym (binding-of .binding-of .ensures .1) ∙ if1 .if1 .left)) (op .op .ensures .1) (op .op .kept .0) (omega arith)) (λ c. omega arith)
     (λ c. many-spent _ _ _ _ before-last (wordless no-operation-words) (c .before .before .further-most .ensures .1) (c .before .loop .inv) (omega
     arith))
 
@@ -132,10 +132,10 @@ pub term-ok : {M : Type 1} (t : ℕ) → cycle.Lts-term.Closed (term-cs t .claim
 term-ok t =
     cycle.Lts-term.spec (term-cs t .claims) (at term-rank t) (term-rank .post) (λ c κs. omega arith) (λ c κs. tt)
     (λ c κs. let if1 = c .before in let is-monadic = if1 .before in let start = is-monadic .before .before .before .before in pair (omega arith) (pair
-    (start .pre .1) (monadic-positive _ (is-monadic .is-monadic .ensures .1) (if1 .if1 .taken)))) (λ c κs. omega arith) (λ c. search needs)
+    (start .pre .1) (monadic-positive _ (is-monadic .is-monadic .ensures .1) (if1 .if1 .taken)))) (λ c κs. omega arith) (λ c. omega arith)
     (λ c. let monad = c .before .before in let if1 = monad .before .before in let is-monadic = if1 .before in let kind-here = is-monadic .before in
     operand-monadic _ (kind-here .kind-here .ensures .1) (is-monadic .is-monadic .ensures .1) (if1 .if1 .taken) (monad .monad .ensures .1))
-    (λ c. search needs)
+    (λ c. omega arith)
     (λ c. let whole = c .before .before in let if1 = whole .before .before in let is-monadic = if1 .before in let kind-here = is-monadic .before in
     operand-suffixed _ (kind-here .kind-here .ensures .1) (is-monadic .is-monadic .ensures .1) (if1 .if1 .left) (whole .whole .ensures .1))
 
@@ -144,11 +144,11 @@ monad-cs t = calls-7 refuse free-of place-here expect reach-of (below expr-rank 
 
 pub monad-ok : {M : Type 1} (t : ℕ) → cycle.Lts-monad.Closed (monad-cs t .claims) (at monad-rank t) (monad-rank .post) M
 monad-ok t =
-    cycle.Lts-monad.spec (monad-cs t .claims) (at monad-rank t) (monad-rank .post) (λ c κs. omega arith) (λ c. search needs)
+    cycle.Lts-monad.spec (monad-cs t .claims) (at monad-rank t) (monad-rank .post) (λ c κs. omega arith) (λ c. omega arith)
     (λ c. monadic-shut _ (c .before .before .if1 .taken) (c .refuse .ensures .1)) (λ c κs. tt) (λ c κs. omega arith) (λ c κs. omega arith)
     (λ c. omega arith) (λ c κs. tt) (λ c κs. pair (omega arith) (pair (past-symbol refl (c .before .before .expect .ensures)) (omega arith)))
     (λ c κs. ready-leaves (c .before .before .before .expr .ensures .1 .0) (c .before .before .before .expr .kept .0) refl (past-symbol refl
-    (c .before .before .before .before .before .before .expect .ensures))) (λ c. search needs)
+    (c .before .before .before .before .before .before .expect .ensures))) (λ c. omega arith)
     (λ c. let node = c .before .before in let expr = node .before .before .before .before in let reach-of = expr .before in
     let expect = reach-of .before .before in let place-here = expect .before .before in let free-of = place-here .before .before in
     let if1 = free-of .before .before in let start = if1 .before .before in leaves ((λ src l x y z k. monadic-read l _ _

@@ -2,7 +2,7 @@
 use Rattle.tree.proofs.phrases.+also+arg+bare+block+body+call+cases+cmd+expr+form+forms+give+index+init+item+key+lets+list+local+monad+nest+op+pass+pick+plain+redo+rest+run+set+step+tail+tails+term+test+till+unit+valof+when+whole as cycle
 use Rattle.language.specs.Tree as T
 use Rattle.language.specs.Commands as C
-use Rattle.laws.proofs.Basics.{ℕ, refl, sym, ap, _∙_, arith, needs}
+use Rattle.laws.proofs.Basics.{ℕ, refl, sym, ap, _∙_, arith}
 use Rattle.language.specs.Binding.{isRepeat}
 use Rattle.language.specs.Grammar.{within, readers}
 use Rattle.language.specs.Reader.{manyUpTo}
@@ -33,10 +33,10 @@ cmd-cs t = calls-4 kind-here is-label (below cases-rank t) (below body-rank t)
 pub cmd-ok : {M : Type 1} (t : ℕ) → cycle.Lts-cmd.Closed (cmd-cs t .claims) (at cmd-rank t) (cmd-rank .post) M
 cmd-ok t =
     cycle.Lts-cmd.spec (cmd-cs t .claims) (at cmd-rank t) (cmd-rank .post) (λ c κs. omega arith) (λ c κs. tt) (λ c κs. omega arith)
-    (λ c. search needs)
+    (λ c. omega arith)
     (λ c. let cases = c .before .before in let if1 = cases .before .before in let is-label = if1 .before in let kind-here = is-label .before in pair
     (cases .cases .ensures .1 .0) (λ src l. cases .cases .ensures .1 .1 src l (kind-here .kind-here .ensures .1 src l) (sym
-    (is-label .is-label .ensures .1) ∙ if1 .if1 .taken))) (λ c κs. omega arith) (λ c. search needs)
+    (is-label .is-label .ensures .1) ∙ if1 .if1 .taken))) (λ c κs. omega arith) (λ c. omega arith)
     (λ c. let body = c .before .before in let if1 = body .before .before in let is-label = if1 .before in let kind-here = is-label .before in
     command-plain _ (kind-here .kind-here .ensures .1) (is-label .is-label .ensures .1) (if1 .if1 .left) (body .body .ensures .1))
 
@@ -54,7 +54,7 @@ cases-ok t =
     (λ c κs. let body = c .before .before .before in let labels = body .before .before .before .before .before .before .before in
     let label = labels .before .before .before .before in ready-leaves (body .body .ensures .1 .0) (body .body .kept .0) refl (ready-leaves
     (labels .labels .ensures .1 .0) (labels .labels .kept .0) refl (ready-leaves (label .label .ensures .1 .0) (label .label .kept .0) refl
-    (label .label .ensures .0)))) (λ c. search needs)
+    (label .label .ensures .0)))) (λ c. omega arith)
     (λ c. let node = c .before .before in let body = node .before .before .before .before in let minus = body .before .before in
     let free-of2 = minus .before in let labels = free-of2 .before .before .before .before in let label = labels .before .before .before .before in
     let free-of = label .before .before in pair (room-left (left (label .label .ensures .1 .0) plus (labels .labels .ensures .1 .0) plus
@@ -69,16 +69,16 @@ body-cs t = calls-4 kind-here begins-command refuse (below redo-rank t)
 pub body-ok : {M : Type 1} (t : ℕ) → cycle.Lts-body.Closed (body-cs t .claims) (at body-rank t) (body-rank .post) M
 body-ok t =
     cycle.Lts-body.spec (body-cs t .claims) (at body-rank t) (body-rank .post) (λ c κs. omega arith) (λ c κs. tt) (λ c κs. omega arith)
-    (λ c. search needs)
+    (λ c. omega arith)
     (λ c. let if2 = c .before .before in let if1 = if2 .before in let begins-command = if1 .before in let kind-here = begins-command .before in
     body-shut _ _ (kind-here .kind-here .ensures .1) (begins-command .begins-command .ensures .1) (if1 .if1 .taken) (if2 .if2 .taken)
-    (c .refuse .ensures .1)) (λ c. omega arith) (λ c κs. omega arith) (λ c. search needs)
+    (c .refuse .ensures .1)) (λ c. omega arith) (λ c κs. omega arith) (λ c. omega arith)
     (λ c. let redo = c .before .before in let if2 = redo .before .before in let if1 = if2 .before in let begins-command = if1 .before in
     let kind-here = begins-command .before in body-open _ _ (kind-here .kind-here .ensures .1) (begins-command .begins-command .ensures .1)
-    (if1 .if1 .taken) (if2 .if2 .left) (redo .redo .ensures .1)) (λ c. search needs)
+    (if1 .if1 .taken) (if2 .if2 .left) (redo .redo .ensures .1)) (λ c. omega arith)
     (λ c. let if1 = c .before in let begins-command = if1 .before in let kind-here = begins-command .before in
     let start = kind-here .before .before .before in body-empty _ _ (kind-here .kind-here .ensures .1) (begins-command .begins-command .ensures .1)
-    (if1 .if1 .left) (start .pre .1) (c .if3 .taken)) (λ c κs. omega arith) (λ c. search needs)
+    (if1 .if1 .left) (start .pre .1) (c .if3 .taken)) (λ c κs. omega arith) (λ c. omega arith)
     (λ c. let if3 = c .before .before in let if1 = if3 .before in let begins-command = if1 .before in let kind-here = begins-command .before in
     body-none _ _ (kind-here .kind-here .ensures .1) (begins-command .begins-command .ensures .1) (if1 .if1 .left) (if3 .if3 .left)
     (c .refuse2 .ensures .1))
@@ -101,14 +101,14 @@ redo-ok t =
     (λ c κs. let forms = c .before .before .before in let form = forms .before .before .before .before in
     let plain = form .before .before .before .before .before .before .before .before .before .before .before in ready-leaves
     (forms .forms .ensures .1 .0) (forms .forms .kept .0) refl (ready-leaves (form .form .ensures .1 .0) (form .form .kept .0) refl (ready-leaves
-    (plain .plain .ensures .1 .0) (plain .plain .kept .0) refl (plain .plain .ensures .0 .1)))) (λ c. search needs)
+    (plain .plain .ensures .1 .0) (plain .plain .kept .0) refl (plain .plain .ensures .0 .1)))) (λ c. omega arith)
     (λ c. let node = c .before .before in let forms = node .before .before .before .before in let form = forms .before .before .before .before in
     let minus = form .before .before in let free-of2 = minus .before in let if1 = free-of2 .before .before in let is-repeat = if1 .before in
     let kind-here = is-repeat .before in let plain = kind-here .before .before .before .before in let free-of = plain .before .before in leaves ((λ
     src l d. let l₁ = lies-still l (plain .plain .ensures .1 .0 .kept) in repeated-more l₁ _ _ (kind-here .kind-here .ensures .1 src l₁) d (sym
     (is-repeat .is-repeat .ensures .1) ∙ if1 .if1 .taken) (free-of .free-of .ensures .1) (measured _ _ (minus .minus .ensures .1)
     (free-of2 .free-of2 .ensures .1) (plain .plain .kept .0))) from plain .plain .ensures .1 with of-kind (kind-here .kind-here .ensures .1)
-    (form .form .ensures .1) with forms .forms .ensures .1 adding node .node .ensures .1) refl) (λ c. search needs)
+    (form .form .ensures .1) with forms .forms .ensures .1 adding node .node .ensures .1) refl) (λ c. omega arith)
     (λ c. let is-repeat = c .before in let kind-here = is-repeat .before in let plain = kind-here .before .before .before .before in leaves ((λ src l
     d. let l₁ = lies-still l (plain .plain .ensures .1 .0 .kept) in repeated-one l₁ 0 _ (kind-here .kind-here .ensures .1 src l₁) d (sym
     (is-repeat .is-repeat .ensures .1) ∙ c .if1 .left)) from plain .plain .ensures .1) refl)
@@ -135,10 +135,10 @@ forms-ok t =
     (start .pre .1)) (repeat-positive _ (is-repeat .is-repeat .ensures .1) (if1 .if1 .taken)))) (λ c. omega arith) (λ c. omega arith)
     (λ c. let form = c .before .before in let if1 = form .before .before in let is-repeat = if1 .before in let kind-here = is-repeat .before in
     let in-loop = kind-here .before .before .before in many-turns _ _ _ _ before-next (in-loop .loop .inv) (kind-here .kind-here .ensures .1) (sym
-    (is-repeat .is-repeat .ensures .1) ∙ if1 .if1 .taken) (form .form .ensures .1) (form .form .kept .0) (omega arith)) (λ c. search needs)
+    (is-repeat .is-repeat .ensures .1) ∙ if1 .if1 .taken) (form .form .ensures .1) (form .form .kept .0) (omega arith)) (λ c. omega arith)
     (λ c. let is-repeat = c .before in let kind-here = is-repeat .before in let in-loop = kind-here .before .before .before in
     let minus = in-loop .before in many-ends _ _ _ _ before-last (wordless no-repeat-words) (minus .minus .ensures .1) (in-loop .loop .inv)
-    (kind-here .kind-here .ensures .1) (sym (is-repeat .is-repeat .ensures .1) ∙ c .if1 .left)) (λ c. search needs)
+    (kind-here .kind-here .ensures .1) (sym (is-repeat .is-repeat .ensures .1) ∙ c .if1 .left)) (λ c. omega arith)
     (λ c. many-spent _ _ _ _ before-last (wordless no-repeat-words) (c .before .before .minus .ensures .1) (c .before .loop .inv) (omega arith))
 
 abbrev pub form-cs : ℕ → Calls cycle.Lts-form.Claims
@@ -147,14 +147,14 @@ form-cs t = calls-5 free-of expect begin-item (below expr-rank t) set-size
 pub form-ok : {M : Type 1} (t : ℕ) → cycle.Lts-form.Closed (form-cs t .claims) (at form-rank t) (form-rank .post) M
 form-ok t =
     cycle.Lts-form.spec (form-cs t .claims) (at form-rank t) (form-rank .post) (λ c κs. tt) (λ c κs. omega arith)
-    (λ c κs. past-symbol refl (c .before .expect .ensures)) (λ c. search needs)
+    (λ c κs. past-symbol refl (c .before .expect .ensures)) (λ c. omega arith)
     (λ c. let begin-item = c .before .before .before in let expect = begin-item .before .before in leaves ((λ src l x y k. repeat-read src 0 _ k
     (c .if1 .taken) x y) from expect .expect .ensures .1 adding begin-item .begin-item .ensures .1) refl)
     (λ c κs. pair (omega arith) (pair (ready-takes (c .before .before .before .before .begin-item .ensures .1 .0)
     (c .before .before .before .before .begin-item .kept .0) (c .before .before .before .before .begin-item .ensures .0)) (omega arith)))
     (λ c κs. let expr = c .before .before .before in let expect = expr .before .before .before .before .before .before .before in
     let free-of = expect .before .before in pair (past-expression refl (expr .expr .ensures) (expr .expr .kept .0)) (item-low
-    (free-of .free-of .ensures .1) (expect .expect .ensures .0 .0))) (λ c. search needs)
+    (free-of .free-of .ensures .1) (expect .expect .ensures .0 .0))) (λ c. omega arith)
     (λ c. let set-size = c .before .before in let expr = set-size .before .before .before .before in let if1 = expr .before .before in
     let begin-item = if1 .before .before .before in let expect = begin-item .before .before in let free-of = expect .before .before in leaves ((λ src
     l w x y z k. repeat-on-read src _ _ k (free-of .free-of .ensures .1) (if1 .if1 .left) (low-past (expect .expect .ensures .0 .0)
@@ -170,26 +170,26 @@ pub plain-ok : {M : Type 1} (t : ℕ) → cycle.Lts-plain.Closed (plain-cs t .cl
 plain-ok t =
     cycle.Lts-plain.spec (plain-cs t .claims) (at plain-rank t) (plain-rank .post) (λ c κs. omega arith) (λ c κs. tt)
     (λ c κs. let if1 = c .before in let is-guard = if1 .before in let start = is-guard .before .before .before .before in pair (omega arith) (pair
-    (start .pre .1) (guard-positive _ (is-guard .is-guard .ensures .1) (if1 .if1 .taken)))) (λ c. search needs)
+    (start .pre .1) (guard-positive _ (is-guard .is-guard .ensures .1) (if1 .if1 .taken)))) (λ c. omega arith)
     (λ c. let when = c .before .before in let if1 = when .before .before in let is-guard = if1 .before in let kind-here = is-guard .before in
     unlabelled-guarded _ (kind-here .kind-here .ensures .1) (is-guard .is-guard .ensures .1) (if1 .if1 .taken) (when .when .ensures .1)) (λ c κs. tt)
     (λ c κs. let if2 = c .before in let is-leave = if2 .before in let start = is-leave .before .before .before .before .before .before in pair
-    (start .pre .1) (leave-positive _ (is-leave .is-leave .ensures .1) (if2 .if2 .taken))) (λ c. search needs)
+    (start .pre .1) (leave-positive _ (is-leave .is-leave .ensures .1) (if2 .if2 .taken))) (λ c. omega arith)
     (λ c. let leave = c .before .before in let if2 = leave .before .before in let is-leave = if2 .before in let if1 = is-leave .before in
     let is-guard = if1 .before in let kind-here = is-guard .before in unlabelled-leave _ (kind-here .kind-here .ensures .1)
     (is-guard .is-guard .ensures .1) (if1 .if1 .left) (is-leave .is-leave .ensures .1) (if2 .if2 .taken) (leave .leave .ensures .1))
     (λ c κs. omega arith) (λ c κs. omega arith) (λ c κs. omega arith) (λ c κs. omega arith) (λ c κs. omega arith) (λ c κs. omega arith)
-    (λ c. search needs)
+    (λ c. omega arith)
     (λ c. unlabelled-test _ (c .before .before .before .before .before .before .before .before .before .kind-here .ensures .1)
-    (c .before .before .before .before .match .keys1) (c .before .before .test .ensures .1)) (λ c. search needs)
+    (c .before .before .before .before .match .keys1) (c .before .before .test .ensures .1)) (λ c. omega arith)
     (λ c. unlabelled-for _ (c .before .before .before .before .before .before .before .before .before .kind-here .ensures .1)
-    (c .before .before .before .before .match .keys2) (c .before .before .step .ensures .1)) (λ c. search needs)
+    (c .before .before .before .before .match .keys2) (c .before .before .step .ensures .1)) (λ c. omega arith)
     (λ c. unlabelled-switchon _ (c .before .before .before .before .before .before .before .before .before .kind-here .ensures .1)
-    (c .before .before .before .before .match .keys3) (c .before .before .pick .ensures .1)) (λ c. search needs)
+    (c .before .before .before .before .match .keys3) (c .before .before .pick .ensures .1)) (λ c. omega arith)
     (λ c. unlabelled-resultis _ (c .before .before .before .before .before .before .before .before .before .kind-here .ensures .1)
-    (c .before .before .before .before .match .keys4) (c .before .before .give .ensures .1)) (λ c. search needs)
+    (c .before .before .before .before .match .keys4) (c .before .before .give .ensures .1)) (λ c. omega arith)
     (λ c. unlabelled-block _ (c .before .before .before .before .before .before .before .before .before .kind-here .ensures .1)
-    (c .before .before .before .before .match .keys5) (c .before .before .block .ensures .1)) (λ c. search needs)
+    (c .before .before .before .before .match .keys5) (c .before .before .block .ensures .1)) (λ c. omega arith)
     (λ c. let bare = c .before .before in let after-match = bare .before .before in let if2 = after-match .before in let is-leave = if2 .before in
     let if1 = is-leave .before in let is-guard = if1 .before in let kind-here = is-guard .before in unlabelled-other _
     (kind-here .kind-here .ensures .1) (is-guard .is-guard .ensures .1) (if1 .if1 .left) (is-leave .is-leave .ensures .1) (if2 .if2 .left)
@@ -207,7 +207,7 @@ test-ok t =
     (λ c κs. let e = c .before .before .before .cmd in pair (past-part refl (e .ensures) (e .kept .0)) (omega arith))
     (λ c κs. pair (omega arith) (past-symbol refl (c .before .expect3 .ensures)))
     (λ c κs. ready-leaves (c .before .before .before .cmd2 .ensures .1 .0) (c .before .before .before .cmd2 .kept .0) refl (past-symbol refl
-    (c .before .before .before .before .before .expect3 .ensures))) (λ c. search needs)
+    (c .before .before .before .before .before .expect3 .ensures))) (λ c. omega arith)
     (λ c. let node = c .before .before in let cmd2 = node .before .before .before .before in let expect3 = cmd2 .before .before in
     let cmd = expect3 .before .before .before .before in let expect2 = cmd .before .before in let expr = expect2 .before .before .before .before in
     let expect = expr .before .before in let free-of = expect .before .before in leaves ((λ src l. test-read l _ _ (free-of .free-of .ensures .1))
@@ -224,7 +224,7 @@ when-ok t =
     (λ c κs. let e = c .before .before .before .expr in pair (past-expression refl (e .ensures) (e .kept .0)) (omega arith))
     (λ c κs. pair (omega arith) (past-symbol refl (c .before .expect2 .ensures)))
     (λ c κs. ready-leaves (c .before .before .before .cmd .ensures .1 .0) (c .before .before .before .cmd .kept .0) refl (past-symbol refl
-    (c .before .before .before .before .before .expect2 .ensures))) (λ c. search needs)
+    (c .before .before .before .before .before .expect2 .ensures))) (λ c. omega arith)
     (λ c. let node = c .before .before in let cmd = node .before .before .before .before in let expect2 = cmd .before .before in
     let expr = expect2 .before .before .before .before in let expect = expr .before .before in let free-of = expect .before .before in leaves ((λ src
     l v w x y z k. guarded-read l _ _ (free-of .free-of .ensures .1) k v w x y z) from expect .expect .ensures .1 with expr .expr .ensures .1 with
@@ -238,7 +238,7 @@ give-ok t =
     cycle.Lts-give.spec (give-cs t .claims) (at give-rank t) (give-rank .post) (λ c κs. tt) (λ c κs. omega arith) (λ c κs. omega arith)
     (λ c κs. pair (omega arith) (pair (past-symbol refl (c .before .expect .ensures)) (omega arith)))
     (λ c κs. ready-leaves (c .before .before .before .expr .ensures .1 .0) (c .before .before .before .expr .kept .0) refl (past-symbol refl
-    (c .before .before .before .before .before .expect .ensures))) (λ c. search needs)
+    (c .before .before .before .before .before .expect .ensures))) (λ c. omega arith)
     (λ c. let node = c .before .before in let expr = node .before .before .before .before in let expect = expr .before .before in
     let place-here = expect .before .before in let free-of = place-here .before .before in leaves ((λ src l. resultis-read l _ _
     (free-of .free-of .ensures .1) (place-here .place-here .ensures .1 src l)) from expect .expect .ensures .1 with expr .expr .ensures .1 adding
@@ -251,20 +251,20 @@ pub bare-ok : {M : Type 1} (t : ℕ) → cycle.Lts-bare.Closed (bare-cs t .claim
 bare-ok t =
     cycle.Lts-bare.spec (bare-cs t .claims) (at bare-rank t) (bare-rank .post) (λ c κs. tt) (λ c κs. omega arith)
     (λ c κs. let e = c .before .before .before .expr in past-expression refl (e .ensures) (e .kept .0)) (λ c κs. tt)
-    (λ c κs. pair (omega arith) (c .before .before .before .kind-here .ensures .0)) (λ c. search needs)
+    (λ c κs. pair (omega arith) (c .before .before .before .kind-here .ensures .0)) (λ c. omega arith)
     (λ c. let set = c .before .before in let if1 = set .before .before in let goes-on-assignment = if1 .before in
     let kind-here = goes-on-assignment .before in let expr = kind-here .before .before .before .before in let free-of = expr .before .before in pair
     (room-left (left (expr .expr .ensures .1 .0) plus (set .set .ensures .1 .0)) refl) (λ src l. (let l₁ = lies-still l
     (expr .expr .ensures .1 .0 .kept) in assignment-first src _ _ (kind-here .kind-here .ensures .1 src l₁) (expr .expr .ensures .1 .1 src l)
     (free-of .free-of .ensures .1) (sym (goes-on-assignment .goes-on-assignment .ensures .1) ∙ if1 .if1 .taken) (set .set .ensures .1 .1 src l₁ .0) (λ
     e q. set .set .ensures .1 .1 src l₁ .1 e (ap (λ (z : ℕ). freeOf z (expr .expr .result)) (expr .expr .kept .0) ∙ q)))))
-    (λ c κs. c .before .before .before .kind-here .ensures .0) (λ c. search needs)
+    (λ c κs. c .before .before .before .kind-here .ensures .0) (λ c. omega arith)
     (λ c. let is-call = c .before in let if1 = is-call .before .before in let goes-on-assignment = if1 .before in
     let kind-here = goes-on-assignment .before in let expr = kind-here .before .before .before .before in pair (expr .expr .ensures .1 .0) (λ src l.
     (let l₁ = lies-still l (expr .expr .ensures .1 .0 .kept) in call-alone src 0 _ (kind-here .kind-here .ensures .1 src l₁)
     (expr .expr .ensures .1 .1 src l) (is-call .is-call .ensures .1) (sym (goes-on-assignment .goes-on-assignment .ensures .1) ∙ if1 .if1 .left)
     (c .if2 .taken))))
-    (λ c κs. c .before .before .is-call .ensures .0) (λ c. search needs)
+    (λ c κs. c .before .before .is-call .ensures .0) (λ c. omega arith)
     (λ c. let if2 = c .before .before in let is-call = if2 .before in let if1 = is-call .before .before in let goes-on-assignment = if1 .before in
     let kind-here = goes-on-assignment .before in let expr = kind-here .before .before .before .before in pair (room-left (left
     (expr .expr .ensures .1 .0) plus (c .refuse .ensures .1 .0)) refl) (λ src l. (let l₁ = lies-still l (expr .expr .ensures .1 .0 .kept) in no-call
@@ -291,7 +291,7 @@ set-ok t =
     (expect .expect .ensures .0 .0) in omega arith)
     (λ c κs. let rest = c .before .before .before in let arg = rest .before .before .before .before in let expect = arg .before .before in
     ready-leaves (rest .rest .ensures .1 .0) (rest .rest .kept .0) refl (ready-takes (arg .arg .ensures .1 .0) (arg .arg .kept .0) (past-symbol refl
-    (expect .expect .ensures)))) (λ c. search needs)
+    (expect .expect .ensures)))) (λ c. omega arith)
     (λ c. let node = c .before .before in let rest = node .before .before .before .before in let arg = rest .before .before .before .before in
     let expect = arg .before .before in let minus2 = expect .before .before in let free-of2 = minus2 .before in
     let also = free-of2 .before .before .before .before in let minus = also .before .before in let free-of = minus .before in pair (room-left (left

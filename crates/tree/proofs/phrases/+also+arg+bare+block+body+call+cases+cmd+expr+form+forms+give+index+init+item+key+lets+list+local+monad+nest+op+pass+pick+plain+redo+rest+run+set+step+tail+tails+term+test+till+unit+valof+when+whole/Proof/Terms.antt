@@ -3,7 +3,7 @@ use Rattle.tree.proofs.phrases.+also+arg+bare+block+body+call+cases+cmd
 use Rattle.language.specs.Tree as T
 use Rattle.language.specs.Expressions as E
 use Rattle.language.specs.Commands as C
-use Rattle.laws.proofs.Basics.{ℕ, _+_, _-_, _≡_, refl, sym, _∙_, arith, needs, eq-eqb, ne-eqb}
+use Rattle.laws.proofs.Basics.{ℕ, _+_, _-_, _≡_, refl, sym, _∙_, arith, eq-eqb, ne-eqb}
 use Rattle.language.specs.Binding.{isSuffix}
 use Rattle.language.specs.Grammar.{within, readers}
 use Rattle.language.specs.Reader.{manyUpTo, isComma}
@@ -59,7 +59,7 @@ whole-ok t =
     (unit .unit .ensures .1 .0 .kept) in suffixed-more l₁ _ _ (kind-here .kind-here .ensures .1 src l₁) d (sym (is-suffix .is-suffix .ensures .1) ∙
     if1 .if1 .taken) (free-of .free-of .ensures .1) (measured _ _ (minus .minus .ensures .1) (free-of2 .free-of2 .ensures .1) (unit .unit .kept .0))
     (place-of .place-of .ensures .1) (suffixed-kind .suffixed-kind .ensures .1)) from unit .unit .ensures .1 with of-kind
-    (kind-here .kind-here .ensures .1) (tail .tail .ensures .1) with tails .tails .ensures .1 adding node .node .ensures .1) refl) (λ c. search needs)
+    (kind-here .kind-here .ensures .1) (tail .tail .ensures .1) with tails .tails .ensures .1 adding node .node .ensures .1) refl) (λ c. omega arith)
     (λ c. let is-suffix = c .before in let kind-here = is-suffix .before in let unit = kind-here .before .before .before .before in leaves ((λ src l
     d. let l₁ = lies-still l (unit .unit .ensures .1 .0 .kept) in suffixed-one l₁ 0 _ (kind-here .kind-here .ensures .1 src l₁) d (sym
     (is-suffix .is-suffix .ensures .1) ∙ c .if1 .left)) from unit .unit .ensures .1) refl)
@@ -70,11 +70,11 @@ unit-cs t = calls-4 kind-here (below nest-rank t) (below valof-rank t) atom
 pub unit-ok : {M : Type 1} (t : ℕ) → cycle.Lts-unit.Closed (unit-cs t .claims) (at unit-rank t) (unit-rank .post) M
 unit-ok t =
     cycle.Lts-unit.spec (unit-cs t .claims) (at unit-rank t) (unit-rank .post) (λ c κs. omega arith) (λ c κs. omega arith) (λ c κs. omega arith)
-    (λ c κs. omega arith) (λ c. search needs)
+    (λ c κs. omega arith) (λ c. omega arith)
     (λ c. primary-bracketed _ (c .before .before .before .before .before .kind-here .ensures .1) (c .before .before .before .before .match .keys1)
-    (c .before .before .nest .ensures .1)) (λ c. search needs)
+    (c .before .before .nest .ensures .1)) (λ c. omega arith)
     (λ c. primary-valof _ (c .before .before .before .before .before .kind-here .ensures .1) (c .before .before .before .before .match .keys2)
-    (c .before .before .valof .ensures .1)) (λ c. search needs)
+    (c .before .before .valof .ensures .1)) (λ c. omega arith)
     (λ c. primary-atom _ (c .before .before .before .before .before .kind-here .ensures .1) (c .before .before .before .before .match .rest)
     (c .before .before .atom .ensures .1))
 
@@ -83,11 +83,11 @@ nest-cs t = calls-6 refuse free-of place-here expect (below expr-rank t) node
 
 pub nest-ok : {M : Type 1} (t : ℕ) → cycle.Lts-nest.Closed (nest-cs t .claims) (at nest-rank t) (nest-rank .post) M
 nest-ok t =
-    cycle.Lts-nest.spec (nest-cs t .claims) (at nest-rank t) (nest-rank .post) (λ c κs. omega arith) (λ c. search needs)
+    cycle.Lts-nest.spec (nest-cs t .claims) (at nest-rank t) (nest-rank .post) (λ c κs. omega arith) (λ c. omega arith)
     (λ c. bracketed-shut _ (c .before .before .if1 .taken) (c .refuse .ensures .1)) (λ c κs. tt) (λ c κs. omega arith) (λ c κs. omega arith)
     (λ c. omega arith) (λ c κs. pair (omega arith) (pair (past-symbol refl (c .before .expect .ensures)) (omega arith)))
     (λ c κs. let e = c .before .before .before .expr in pair (past-expression refl (e .ensures) (e .kept .0)) (omega arith))
-    (λ c κs. past-symbol refl (c .before .expect2 .ensures)) (λ c. search needs)
+    (λ c κs. past-symbol refl (c .before .expect2 .ensures)) (λ c. omega arith)
     (λ c. let node = c .before .before in let expect2 = node .before .before in let expr = expect2 .before .before .before .before in
     let expect = expr .before .before in let place-here = expect .before .before in let free-of = place-here .before .before in
     let if1 = free-of .before .before in leaves ((λ src l. bracketed-read l _ _ (free-of .free-of .ensures .1) (place-here .place-here .ensures .1 src
@@ -99,11 +99,11 @@ valof-cs t = calls-6 refuse free-of place-here expect (below cmd-rank t) node
 
 pub valof-ok : {M : Type 1} (t : ℕ) → cycle.Lts-valof.Closed (valof-cs t .claims) (at valof-rank t) (valof-rank .post) M
 valof-ok t =
-    cycle.Lts-valof.spec (valof-cs t .claims) (at valof-rank t) (valof-rank .post) (λ c κs. omega arith) (λ c. search needs)
+    cycle.Lts-valof.spec (valof-cs t .claims) (at valof-rank t) (valof-rank .post) (λ c κs. omega arith) (λ c. omega arith)
     (λ c. valof-shut _ (c .before .before .if1 .taken) (c .refuse .ensures .1)) (λ c κs. tt) (λ c κs. omega arith) (λ c κs. omega arith)
     (λ c. omega arith) (λ c κs. pair (omega arith) (past-symbol refl (c .before .expect .ensures)))
     (λ c κs. ready-leaves (c .before .before .before .cmd .ensures .1 .0) (c .before .before .before .cmd .kept .0) refl (past-symbol refl
-    (c .before .before .before .before .before .expect .ensures))) (λ c. search needs)
+    (c .before .before .before .before .before .expect .ensures))) (λ c. omega arith)
     (λ c. let node = c .before .before in let cmd = node .before .before .before .before in let expect = cmd .before .before in
     let place-here = expect .before .before in let free-of = place-here .before .before in let if1 = free-of .before .before in leaves ((λ src l.
     valof-read l _ _ (free-of .free-of .ensures .1) (place-here .place-here .ensures .1 src l) (if1 .if1 .left)) from expect .expect .ensures .1 with
@@ -114,8 +114,8 @@ tail-cs t = calls-2 (below call-rank t) (below index-rank t)
 
 pub tail-ok : {M : Type 1} (t : ℕ) → cycle.Lts-tail.Closed (tail-cs t .claims) (at tail-rank t) (tail-rank .post) M
 tail-ok t =
-    cycle.Lts-tail.spec (tail-cs t .claims) (at tail-rank t) (tail-rank .post) (λ c κs. omega arith) (λ c κs. omega arith) (λ c. search needs)
-    (λ c. suffix-arguments _ (c .before .before .before .before .if1 .taken) (c .before .before .call .ensures .1)) (λ c. search needs)
+    cycle.Lts-tail.spec (tail-cs t .claims) (at tail-rank t) (tail-rank .post) (λ c κs. omega arith) (λ c κs. omega arith) (λ c. omega arith)
+    (λ c. suffix-arguments _ (c .before .before .before .before .if1 .taken) (c .before .before .call .ensures .1)) (λ c. omega arith)
     (λ c. suffix-index _ (c .before .before .before .before .if1 .left) (c .before .before .index .ensures .1))
 
 abbrev pub tails-cs : ℕ → Calls cycle.Lts-tails.Claims
@@ -140,10 +140,10 @@ tails-ok t =
     (c .before .before .before .before .before .before .before .before .before .pre .1))) (λ c. omega arith) (λ c. omega arith)
     (λ c. let tail = c .before .before in let if1 = tail .before .before in let is-suffix = if1 .before in let kind-here = is-suffix .before in
     let in-loop = kind-here .before .before .before in many-turns _ _ _ _ suffix-next (in-loop .loop .inv) (kind-here .kind-here .ensures .1) (sym
-    (is-suffix .is-suffix .ensures .1) ∙ if1 .if1 .taken) (tail .tail .ensures .1) (tail .tail .kept .0) (omega arith)) (λ c. search needs)
+    (is-suffix .is-suffix .ensures .1) ∙ if1 .if1 .taken) (tail .tail .ensures .1) (tail .tail .kept .0) (omega arith)) (λ c. omega arith)
     (λ c. let is-suffix = c .before in let kind-here = is-suffix .before in let in-loop = kind-here .before .before .before in
     let minus = in-loop .before in many-ends _ _ _ _ suffix-last no-suffix-ended (minus .minus .ensures .1) (in-loop .loop .inv)
-    (kind-here .kind-here .ensures .1) (sym (is-suffix .is-suffix .ensures .1) ∙ c .if1 .left)) (λ c. search needs)
+    (kind-here .kind-here .ensures .1) (sym (is-suffix .is-suffix .ensures .1) ∙ c .if1 .left)) (λ c. omega arith)
     (λ c. many-spent _ _ _ _ suffix-last no-suffix-ended (c .before .before .minus .ensures .1) (c .before .loop .inv) (omega arith))
 
 abbrev pub call-cs : ℕ → Calls cycle.Lts-call.Claims
@@ -151,11 +151,11 @@ call-cs t = calls-5 refuse free-of expect (below pass-rank t) close-item
 
 pub call-ok : {M : Type 1} (t : ℕ) → cycle.Lts-call.Closed (call-cs t .claims) (at call-rank t) (call-rank .post) M
 call-ok t =
-    cycle.Lts-call.spec (call-cs t .claims) (at call-rank t) (call-rank .post) (λ c κs. omega arith) (λ c. search needs)
+    cycle.Lts-call.spec (call-cs t .claims) (at call-rank t) (call-rank .post) (λ c κs. omega arith) (λ c. omega arith)
     (λ c. arguments-shut _ (c .before .before .if1 .taken) (c .refuse .ensures .1)) (λ c κs. tt) (λ c κs. omega arith) (λ c. omega arith)
     (λ c κs. pair (omega arith) (past-symbol refl (c .before .expect .ensures)))
     (λ c κs. ready-leaves (c .before .before .before .pass .ensures .1 .0) (c .before .before .before .pass .kept .0) refl (ready-part
-    (c .before .before .before .pass .ensures .0 .1) refl)) (λ c. search needs)
+    (c .before .before .before .pass .ensures .0 .1) refl)) (λ c. omega arith)
     (λ c. let close-item = c .before .before in let pass = close-item .before .before .before .before in let expect = pass .before .before in
     let free-of = expect .before .before in let if1 = free-of .before .before in leaves ((λ src l. arguments-read src _ _
     (free-of .free-of .ensures .1) (if1 .if1 .left)) from expect .expect .ensures .1 with pass .pass .ensures .1 adding
@@ -166,7 +166,7 @@ pass-cs t = calls-4 kind-here expect (below arg-rank t) (below also-rank t)
 
 pub pass-ok : {M : Type 1} (t : ℕ) → cycle.Lts-pass.Closed (pass-cs t .claims) (at pass-rank t) (pass-rank .post) M
 pass-ok t =
-    cycle.Lts-pass.spec (pass-cs t .claims) (at pass-rank t) (pass-rank .post) (λ c κs. omega arith) (λ c κs. omega arith) (λ c. search needs)
+    cycle.Lts-pass.spec (pass-cs t .claims) (at pass-rank t) (pass-rank .post) (λ c κs. omega arith) (λ c κs. omega arith) (λ c. omega arith)
     (λ c. (
       leaves-less (c .expect .ensures .1 .0) refl,
       λ src l. no-arguments src _ (c .before .before .before .kind-here .ensures .1 src l)
@@ -174,7 +174,7 @@ pass-ok t =
     )) (λ c κs. omega arith)
     (λ c κs. pair (omega arith) (ready-takes (c .before .before .before .arg .ensures .1 .0) (c .before .before .before .arg .kept .0) (ready-part
     (c .before .before .before .arg .ensures .0 .1) refl)))
-    (λ c κs. let e = c .before .before .before .also in pair (past-part refl (e .ensures) (e .kept .0)) (omega arith)) (λ c. search needs)
+    (λ c κs. let e = c .before .before .before .also in pair (past-part refl (e .ensures) (e .kept .0)) (omega arith)) (λ c. omega arith)
     (λ c. let also = c .before .before .before .before in let arg = also .before .before .before .before in let if1 = arg .before .before in
     let kind-here = if1 .before in pair (room-left (taken (arg .arg .ensures .1 .0) plus (also .also .ensures .1 .0) plus (c .expect2 .ensures .1 .0))
     refl) (λ src l. (let l₁ = lies-still l (arg .arg .ensures .1 .0 .kept) in let l₂ = lies-still l₁ (also .also .ensures .1 .0 .kept) in
@@ -191,7 +191,7 @@ arg-ok t =
     (c .before .before .before .begin-item .kept .0) (c .before .before .before .begin-item .ensures .0)) (omega arith)))
     (λ c κs. let expr = c .before .before .before in let begin-item = expr .before .before .before .before in
     let free-of = begin-item .before .before in pair (past-expression refl (expr .expr .ensures) (expr .expr .kept .0)) (item-low
-    (free-of .free-of .ensures .1) (ready-part (begin-item .begin-item .ensures .0) refl))) (λ c. search needs)
+    (free-of .free-of .ensures .1) (ready-part (begin-item .begin-item .ensures .0) refl))) (λ c. omega arith)
     (λ c. let set-size = c .before .before in let expr = set-size .before .before .before .before in
     let begin-item = expr .before .before .before .before in let free-of = begin-item .before .before in takes ((λ src l. argument-read src _ _
     (free-of .free-of .ensures .1) (low (begin-item .begin-item .ensures .0))) writing begin-item .begin-item .ensures .1 with expr .expr .ensures .1
@@ -213,7 +213,7 @@ also-ok t =
     cycle.Lts-also.spec (also-cs t .claims) (at also-rank t) (also-rank .post) also-inv also-turns
     (λ c. (so-begins (c .before .pre .1) expression-first, refl))
     (λ c κs. ready-leaves (c .before .before .loop .inv .0 .room) (c .before .before .loop .inv .0 .same) refl
-    (c .before .before .before .before .pre .1)) (λ c. search needs)
+    (c .before .before .before .before .pre .1)) (λ c. omega arith)
     (λ c. many-ends _ _ _ _ expression-last no-expression-counted refl (c .before .before .before .before .loop .inv .0)
     (c .before .kind-here .ensures .1) (ne-eqb _ _ (c .if1 .taken)))
     (λ c κs. pair (c .before .before .kind-here .ensures .0) (omega arith))
@@ -221,7 +221,7 @@ also-ok t =
     (λ c. let arg = c .before .before in let expect = arg .before .before in let if1 = expect .before .before in let kind-here = if1 .before in
     let in-loop = kind-here .before .before .before in pair (many-turns _ _ _ _ expression-next (in-loop .loop .inv .0)
     (kind-here .kind-here .ensures .1) (eq-eqb _ _ (if1 .if1 .left)) (at-any (further-reads _ (expect .expect .ensures .1) (arg .arg .ensures .1)))
-    (arg .arg .kept .0) (omega arith)) (omega (arith, in-loop .loop .inv .1))) (λ c. search needs)
+    (arg .arg .kept .0) (omega arith)) (omega (arith, in-loop .loop .inv .1))) (λ c. omega arith)
     (λ c. many-spent _ _ _ _ expression-last no-expression-counted refl (c .before .loop .inv .0) (omega arith))
 
 abbrev pub rest-cs : ℕ → Calls cycle.Lts-rest.Claims
@@ -243,7 +243,7 @@ rest-ok t =
     (λ c. let arg = c .before .before in let expect = arg .before .before in let in-loop = expect .before .before .before in
     let start = in-loop .before .before in so-turns (in-loop .loop .inv) (C.further (readers (within (start .args .levels))) (in-loop .loop .left -
     1)) value-next (further-reads _ (expect .expect .ensures .1) (arg .arg .ensures .1)) (arg .arg .kept .0) (λ src l at free e. value-turn
-    (start .args .levels) src (in-loop .loop .left) at (omega arith))) (λ c. search needs)
+    (start .args .levels) src (in-loop .loop .left) at (omega arith))) (λ c. omega arith)
     (λ c. so-ends (c .before .loop .inv) T.noExpressions before-last (wordless no-expression-words) (λ src l at free e. value-last
     (c .before .before .before .args .levels) src _ at (omega arith)))
 
@@ -255,7 +255,7 @@ index-ok t =
     cycle.Lts-index.spec (index-cs t .claims) (at index-rank t) (index-rank .post) (λ c κs. tt) (λ c κs. omega arith)
     (λ c κs. pair (omega arith) (past-symbol refl (c .before .expect .ensures)))
     (λ c κs. ready-leaves (c .before .before .before .key .ensures .1 .0) (c .before .before .before .key .kept .0) refl (past-symbol refl
-    (c .before .before .before .before .before .expect .ensures))) (λ c. search needs)
+    (c .before .before .before .before .before .expect .ensures))) (λ c. omega arith)
     (λ c. let close-item = c .before .before in let key = close-item .before .before .before .before in let expect = key .before .before in
     let free-of = expect .before .before in leaves ((λ src l. index-read src _ _ (free-of .free-of .ensures .1)) from expect .expect .ensures .1 with
     key .key .ensures .1 adding close-item .close-item .ensures .1) refl)
@@ -267,9 +267,9 @@ pub key-ok : {M : Type 1} (t : ℕ) → cycle.Lts-key.Closed (key-cs t .claims) 
 key-ok t =
     cycle.Lts-key.spec (key-cs t .claims) (at key-rank t) (key-rank .post) (λ c κs. omega arith) (λ c κs. tt)
     (λ c κs. let if1 = c .before in let is-monadic = if1 .before in let start = is-monadic .before .before .before .before in pair (omega arith) (pair
-    (start .pre .1) (monadic-positive _ (is-monadic .is-monadic .ensures .1) (if1 .if1 .taken)))) (λ c κs. omega arith) (λ c. search needs)
+    (start .pre .1) (monadic-positive _ (is-monadic .is-monadic .ensures .1) (if1 .if1 .taken)))) (λ c κs. omega arith) (λ c. omega arith)
     (λ c. let monad = c .before .before in let if1 = monad .before .before in let is-monadic = if1 .before in let kind-here = is-monadic .before in
     subscript-monadic _ (kind-here .kind-here .ensures .1) (is-monadic .is-monadic .ensures .1) (if1 .if1 .taken) (monad .monad .ensures .1))
-    (λ c. search needs)
+    (λ c. omega arith)
     (λ c. let unit = c .before .before in let if1 = unit .before .before in let is-monadic = if1 .before in let kind-here = is-monadic .before in
     subscript-primary _ (kind-here .kind-here .ensures .1) (is-monadic .is-monadic .ensures .1) (if1 .if1 .left) (unit .unit .ensures .1))
