@@ -14,7 +14,7 @@ use Rattle.tree.specs.Between.{PrependsOne, Counted, anArgument, aFurthe
 use Rattle.tree.specs.Encoding.{closed, encode, encodeExpressions, encodeSides, encodeFirst, encodeUnlabelled}
 use Rattle.tree.proofs.Steps.{follow, bind, look, here, again, added, adds-on, goes-on, _then_, nothing, stopped}
 use Rattle.tree.proofs.Symbols.{stays}
-use Rattle.tree.proofs.Blocks.{four}
+use Rattle.tree.proofs.Readers.{parts}
 use Rattle.tree.proofs.Lets.{argument-first}
 use Rattle.tree.specs.declared.scratch.State.{State}
 
@@ -36,7 +36,14 @@ assignment-read src size x lo {n} {v} {p} {t} {s} {s₁} {s₂} {s₃} {s₄} {r
     (follow size c (goes-on d then adds-on f) (λ put w h q₂. bind size encodeExpressions d (adds-on f) (λ ds q₃. added size f (record {
       same = sym (
           ap (λ (y : List ℕ). encode e ++ (y ++ (w ++ (encodeExpressions ds ++ recordFrom lo v p K.ASSIGN (freeOf size r₄))))) (g .same)
-          ∙ four (encode e) (encodeExpressions es) w (encodeExpressions ds) (freeOf size r₄ - lo) v p K.ASSIGN (omega (arith, ap length (g .same)))
+          ∙ ap (λ (y : List ℕ). encode e ++ (encodeExpressions es ++ y)) (sym (append-assoc w (encodeExpressions ds) _))
+          ∙ parts (encode e) (encodeExpressions es) (w ++ encodeExpressions ds) (freeOf size r₄ - lo) v p K.ASSIGN (omega (
+            arith,
+            ap length (g .same),
+            length-append (encode e) (encodeExpressions es ++ (w ++ encodeExpressions ds)),
+            length-append (encodeExpressions es) (w ++ encodeExpressions ds),
+            length-append w (encodeExpressions ds),
+          ))
           ∙ ap (λ (y : List ℕ). closed (encode e ++ (encodeExpressions es ++ y)) v p K.ASSIGN) (sym (h .puts ds))
           ∙ ap (λ (y : List ℕ). closed y v p K.ASSIGN) (sym (append-assoc (encode e) (encodeExpressions es) (encodeExpressions (put ds))))
           ∙ ap (λ (y : ℕ). closed ((encode e ++ encodeExpressions es) ++ encodeExpressions (put ds)) y p K.ASSIGN) (omega arith)

@@ -16,11 +16,10 @@ use Rattle.tree.specs.Reads.{freeOf}
 use Rattle.tree.specs.Between.{Repeated, repeatedBy, repeatedOnly, encodeRepeatedOnly, opened, bodyAfter}
 use Rattle.tree.specs.Encoding.{LABELLED, closed, encode, encodeName, encodeBy, encodeLabels, encodeCommand, encodeCommands, encodeUnlabelled}
 use Rattle.tree.specs.Encoding.{encodeRepeats, encodeLocals, labelled, repeated}
-use Rattle.tree.proofs.Steps.{follow, bind, here, added, adds-on, goes-on, _then_, nothing}
-use Rattle.tree.proofs.Symbols.{mapped, the-is, lies-still}
+use Rattle.tree.proofs.Steps.{follow, bind, here, closes, goes-on, _then_, nothing}
+use Rattle.tree.proofs.Symbols.{ends, mapped, the-is, lies-still}
 use Rattle.tree.proofs.ListEnd.{listed-items}
 use Rattle.tree.proofs.Chains.{grown}
-use Rattle.tree.proofs.Commands.{two, three}
 use Rattle.tree.proofs.Choices.{KindsHere, Refusing, Expects, picked, refused-at, shut-at}
 use Rattle.tree.proofs.Rooms.{leaves-all, leaves-less, leaves-last, taken, _plus_, room-left}
 use Rattle.tree.proofs.Classes.{unlike2}
@@ -139,34 +138,19 @@ module _ {src : Source} {n : ℕ} {s₀ : List ℕ} (l : HoldsSymbols src n s₀
       → Reads (C.command (within x) src) encodeCommand s s₄ r r₄
   unfolding C.command encodeCommand encodeRepeatedOnly isLabel member
   labelled-read {s} {s₁} {s₂} {s₃} {s₄} {r₁} {r₂} {r₃} {r₄} {lo} {value} hb lo-is ev d₁ d₂ d₃ d₄ =
-      here _ (λ at free y. many-first k [] isLabel (C.label (within x)) (λ ls m. C.afterLabels (within x) ls src m) y l refl hb)
-      (follow size d₁ (goes-on d₂ then goes-on d₃ then adds-on d₄) (λ put w h q₁. bind size encodeLabels d₂ (goes-on d₃ then adds-on d₄) (λ ls q₂.
+      closes (Encodes encodeCommand) size lo-is
+      (here _ (λ at free y. many-first k [] isLabel (C.label (within x)) (λ ls m. C.afterLabels (within x) ls src m) y l refl hb)
+      (follow size d₁ (goes-on d₂ then goes-on d₃) (λ put w h q₁. bind size encodeLabels d₂ (goes-on d₃) (λ ls q₂.
       let some : 0 < length (encodeLabels (put ls)) = grown w (encodeLabels ls) (encodeLabels (put ls)) (h .puts ls) (h .some) in
       let both : length (encodeLabels (put ls)) ≡ length w + length (encodeLabels ls) = ap length (h .puts ls) ∙ length-append w (encodeLabels ls) in
-      here _ (λ at free y. after-words x src (put ls) some at)
-      (bind size encodeRepeatedOnly d₃ (adds-on d₄)
-      (λ c q₃. added size d₄ (record {
-        same = sym (append-assoc w (encodeLabels ls) _)
-            ∙ ap (λ (v : List ℕ). v ++ (encodeRepeatedOnly c ++ recordFrom lo value 0 LABELLED (freeOf size r₃))) (sym (h .puts ls))
-            ∙ two (encodeLabels (put ls)) (encodeRepeatedOnly c) (freeOf size r₃ - lo) value 0 LABELLED (omega arith)
+      here _ (λ at free y. after-words x src (put ls) some at) (ends (with-labels (put ls)) d₃ (λ c. record {
+        same = ap (λ (u : List ℕ). closed u value 0 LABELLED) (sym (append-assoc w (encodeLabels ls) (encodeRepeatedOnly c))
+            ∙ ap (λ (v : List ℕ). v ++ encodeRepeatedOnly c) (sym (h .puts ls)))
             ∙ ap (λ (z : ℕ). closed (encodeLabels (put ls) ++ encodeRepeatedOnly c) z 0 LABELLED) (omega arith)
             ∙ sym (labelled-words (encodeLabels (put ls)) (encodeRepeatedOnly c) some);
-      }))))))
+      })))))) d₄
 
 -- ---- commands that hold others
-
-pub four :
-    (a b c d : List ℕ) (z v p k : ℕ) → z ≡ length a + (length b + (length c + length d))
-    → a ++ (b ++ (c ++ (d ++ (z ∷ v ∷ p ∷ k ∷ [])))) ≡ closed (a ++ (b ++ (c ++ d))) v p k
-four a b c d z v p k e =
-    ap (λ (w : List ℕ). a ++ (b ++ w)) (sym (append-assoc c d (z ∷ v ∷ p ∷ k ∷ []))) ∙ three a b (c ++ d) z v p k (omega (arith, length-append c d))
-
-five :
-    (a b c d f : List ℕ) (z v p k : ℕ) → z ≡ length a + (length b + (length c + (length d + length f)))
-    → a ++ (b ++ (c ++ (d ++ (f ++ (z ∷ v ∷ p ∷ k ∷ []))))) ≡ closed (a ++ (b ++ (c ++ (d ++ f)))) v p k
-five a b c d f z v p k e =
-    ap (λ (w : List ℕ). a ++ (b ++ (c ++ w))) (sym (append-assoc d f (z ∷ v ∷ p ∷ k ∷ [])))
-    ∙ four a b c (d ++ f) z v p k (omega (arith, length-append d f))
 
 module _ {src : Source} {n : ℕ} {s : List ℕ} (l : HoldsSymbols src n s) {r : State} (size x : ℕ) {lo : ℕ} (lo-is : lo ≡ freeOf size r) where
   pub for-read :
@@ -179,24 +163,16 @@ module _ {src : Source} {n : ℕ} {s : List ℕ} (l : HoldsSymbols src n s) {r :
       → Reads (C.for (readers (within x)) src) encodeUnlabelled s t r q
   unfolding C.for encodeUnlabelled
   for-read {value} a b c d f g h i j v k =
-      let kp = goes-on j then adds-on k in
-      let ip = goes-on i then kp in
-      let hp = goes-on h then ip in
-      let gp = goes-on g then hp in
-      let fp = goes-on f then gp in
-      let dp = goes-on d then fp in
-      let cp = goes-on c then dp in
-      bind size (λ _. []) a (goes-on b then cp)
-      (λ _ q₁. bind size encodeName b cp
-      (λ m q₂. bind size (λ _. []) c dp
-      (λ _ q₃. bind size encode d fp (λ e q₄. bind size (λ _. []) f gp
-      (λ _ q₅. bind size encode g hp (λ y q₆. bind size encodeBy h ip
-      (λ o q₇. bind size (λ _. []) i kp
-      (λ _ q₈. bind size encodeCommand j (adds-on k)
-      (λ z q₉. added size k (record {
-        same = five (encodeName m) (encode e) (encode y) (encodeBy o) (encodeCommand z) _ value 0 K.FOR (omega arith)
-            ∙ ap (λ (u : ℕ). closed (encodeName m ++ (encode e ++ (encode y ++ (encodeBy o ++ encodeCommand z)))) u 0 K.FOR) (omega arith);
-      }))))))))))
+      let ip = goes-on i then goes-on j in
+      let gp = goes-on g then goes-on h then ip in
+      let dp = goes-on d then goes-on f then gp in
+      closes (Encodes encodeUnlabelled) size lo-is
+      (bind size (λ _. []) a (goes-on b then goes-on c then dp) (λ _ _. bind size encodeName b (goes-on c then dp)
+      (λ m _. bind size (λ _. []) c dp (λ _ _. bind size encode d (goes-on f then gp)
+      (λ e _. bind size (λ _. []) f gp (λ _ _. bind size encode g (goes-on h then ip)
+      (λ y _. bind size encodeBy h ip (λ o q₇. bind size (λ _. []) i (goes-on j) (λ _ _. ends (T.for m e y o) j (λ z. record {
+        same = ap (λ (u : ℕ). closed (encodeName m ++ (encode e ++ (encode y ++ (encodeBy o ++ encodeCommand z)))) u 0 K.FOR) (omega arith);
+      })))))))))) k
 
   pub switchon-read :
       {value : ℕ} {s₂ s₅ s₆ t : List ℕ} {r₁ r₂ r₃ r₄ r₅ r₆ q : State} → Reads (the K.SWITCHON src) (λ _. []) s s r r₁
@@ -207,16 +183,12 @@ module _ {src : Source} {n : ℕ} {s : List ℕ} (l : HoldsSymbols src n s) {r :
   unfolding C.switchon encodeUnlabelled
   switchon-read {value} a b c d f g v k =
       let fg = listed-items T.noCommands (C.listed (readers (within x))) src (l .count) f g in
-      let dp = goes-on d then goes-on fg then adds-on k in
-      bind size (λ _. []) a (goes-on b then goes-on c then dp)
-      (λ _ q₁. bind size encode b (goes-on c then dp)
-      (λ e q₂. bind size (λ _. []) c dp
-      (λ _ q₃. bind size (λ _. []) d (goes-on fg then adds-on k)
-      (λ _ q₄. bind size encodeCommands fg (adds-on k)
-      (λ cs q₅. added size k (record {
-        same = two (encode e) (encodeCommands cs) _ value 0 K.SWITCHON (omega arith)
-            ∙ ap (λ (u : ℕ). closed (encode e ++ encodeCommands cs) u 0 K.SWITCHON) (omega arith);
-      }))))))
+      let dp = goes-on d then goes-on fg in
+      closes (Encodes encodeUnlabelled) size lo-is
+      (bind size (λ _. []) a (goes-on b then goes-on c then dp) (λ _ q₁. bind size encode b (goes-on c then dp)
+      (λ e q₂. bind size (λ _. []) c dp (λ _ _. bind size (λ _. []) d (goes-on fg) (λ _ _. ends (T.switchon e) fg (λ cs. record {
+        same = ap (λ (u : ℕ). closed (encode e ++ encodeCommands cs) u 0 K.SWITCHON) (omega arith);
+      })))))) k
 
   pub block-read :
       {value : ℕ} {s₂ s₃ t : List ℕ} {r₁ r₂ r₃ q : State} → Reads (the K.BEGIN src) (λ _. []) s s r r₁
@@ -225,15 +197,12 @@ module _ {src : Source} {n : ℕ} {s : List ℕ} (l : HoldsSymbols src n s) {r :
       → Adds (recordFrom lo value 0 K.BEGIN) s₃ t r₃ q → Reads (C.block (readers (within x)) src) encodeUnlabelled s t r q
   unfolding C.block many encodeUnlabelled
   block-read {value} {s₂} {s₃} {t} {r₁} {r₂} a b c v k =
-      bind size (λ _. []) a (goes-on b then goes-on c then adds-on k)
-      (λ _ q₁. bind size encodeLocals
+      closes (Encodes encodeUnlabelled) size lo-is
+      (bind size (λ _. []) a (goes-on b then goes-on c) (λ _ q₁. bind size encodeLocals
       (subst (λ (m : ℕ). Reads (manyUpTo m T.noLocals (λ kind. eqb kind K.LET) (C.local (readers (within x))) src) encodeLocals s s₂ r₁ r₂)
-      (sym (l .count)) b) (goes-on c then adds-on k)
-      (λ ls q₂. bind size encodeCommands c (adds-on k)
-      (λ cs q₃. added size k (record {
-        same = two (encodeLocals ls) (encodeCommands cs) _ value 0 K.BEGIN (omega arith)
-            ∙ ap (λ (u : ℕ). closed (encodeLocals ls ++ encodeCommands cs) u 0 K.BEGIN) (omega arith);
-      }))))
+      (sym (l .count)) b) (goes-on c) (λ ls q₂. ends (T.block ls) c (λ cs. record {
+        same = ap (λ (u : ℕ). closed (encodeLocals ls ++ encodeCommands cs) u 0 K.BEGIN) (omega arith);
+      })))) k
 
 -- a command of a list
 pub listed-read :

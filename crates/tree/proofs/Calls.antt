@@ -9,7 +9,7 @@ use Rattle.tree.specs.Between.{CallHere, PlaceHere}
 use Rattle.tree.specs.Encoding.{MONADIC, CALLED, DYADIC, suffixedKind, closed, encode, encodeName, encodeCommand, encodeSuffixes}
 use Rattle.tree.specs.Encoding.{encodeOperations}
 use Rattle.tree.proofs.Helpers.{free-is, room-is}
-use Rattle.tree.proofs.Symbols.{clash}
+use Rattle.laws.proofs.Cases.{contradiction}
 use Rattle.tree.specs.declared.scratch.State.{State}
 use Rattle.tree.specs.declared.scratch.State.the-variants.{Read, Refused}
 
@@ -95,7 +95,7 @@ module _ {s : List ℕ} {n : ℕ} {r : State} {at free : ℕ} (h : Ready 0 s n r
   place-entry = record { here = λ at′ free′ before x e′ t. place-is at′ free′ before x e′ t }
 
 pub call-refused : {s : List ℕ} {r : State} {k p : ℕ} {call : Bool} → r ≡ Refused k p → CallHere s r call
-call-refused e = record { here = λ at free before x e′ t. absurd (clash e e′) }
+call-refused e = record { here = λ at free before x e′ t. contradiction cc }
 
 pub place-refused : {s : List ℕ} {r : State} {k p place : ℕ} → r ≡ Refused k p → PlaceHere s r place
-place-refused e = record { here = λ at free before x e′ t. absurd (clash e e′) }
+place-refused e = record { here = λ at free before x e′ t. contradiction cc }

@@ -5,7 +5,7 @@ use Rattle.language.specs.Reader.{Source, no, Reader, kindAt, the}
 use Rattle.language.specs.Binding.{isMonadic, NEGATION}
 use Rattle.language.specs.Expressions as E
 use Rattle.language.specs.Expressions.{Inside, shut, opening}
-use Rattle.language.specs.Tree.{Suffixes}
+use Rattle.language.specs.Tree.{Expression, Suffixes}
 use Rattle.language.specs.Grammar.{within}
 use Rattle.language.proofs.Bindings.{negation}
 use Rattle.tree.specs.Reads.{HoldsSymbols, LeavesRoom, KindHere, Encodes, Refuses, Reading, ReadingAt}
@@ -90,57 +90,55 @@ at-not :
     → E.expression (within x) b src at ≡ cond (eqb (kindAt src at) K.NOT) (E.monadic (within x) src at) (E.expression (within x) 4 src at)
 at-not x b rung src at = ap (λ (y : ℕ). E.expression (within x) y src at) rung ∙ negation (within x) src at
 
+abbrev Reads-by : Reader Expression → (s s′ : List ℕ) → ℕ → (r r′ : State) → Type 0
+Reads-by read s s′ n r r′ = Reading 1 read (Encodes encode) s s′ n r r′
+
 module _ (x : ℕ) {s s′ : List ℕ} {n : ℕ} {r r′ : State} {kind : ℕ} where
   module _ (kinds : KindsHere s n r kind) where
     module _ {b : Bool} (e : b ≡ isMonadic kind) where
       module _ (q : b ≡ true) (d : ReadingAt kind 1 (E.monadic (within x)) (Encodes encode) s s′ n r r′) where
-        pub operand-monadic : Reading 1 (E.operand (within x)) (Encodes encode) s s′ n r r′
+        pub operand-monadic : Reads-by (E.operand (within x)) s s′ n r r′
         unfolding E.operand
         operand-monadic = chosen kinds _ (λ src at h. rw (ap isMonadic h ∙ sym e ∙ q)) d
 
-        pub subscript-monadic : Reading 1 (E.subscript (within x)) (Encodes encode) s s′ n r r′
+        pub subscript-monadic : Reads-by (E.subscript (within x)) s s′ n r r′
         unfolding E.subscript
         subscript-monadic = chosen kinds _ (λ src at h. rw (ap isMonadic h ∙ sym e ∙ q)) d
 
       module _ (q : b ≡ false) where
-        pub operand-suffixed :
-            Reading 1 (E.suffixed (within x)) (Encodes encode) s s′ n r r′ → Reading 1 (E.operand (within x)) (Encodes encode) s s′ n r r′
+        pub operand-suffixed : Reads-by (E.suffixed (within x)) s s′ n r r′ → Reads-by (E.operand (within x)) s s′ n r r′
         unfolding E.operand
         operand-suffixed d = picked kinds _ (λ src at h. rw (ap isMonadic h ∙ sym e ∙ q)) d
 
-        pub subscript-primary :
-            Reading 1 (E.primary (within x)) (Encodes encode) s s′ n r r′ → Reading 1 (E.subscript (within x)) (Encodes encode) s s′ n r r′
+        pub subscript-primary : Reads-by (E.primary (within x)) s s′ n r r′ → Reads-by (E.subscript (within x)) s s′ n r r′
         unfolding E.subscript
         subscript-primary d = picked kinds _ (λ src at h. rw (ap isMonadic h ∙ sym e ∙ q)) d
 
     module _ (b : ℕ) (rung : b ≡ NEGATION) where
       pub expression-not :
           kind ≡ K.NOT → ReadingAt kind 1 (E.monadic (within x)) (Encodes encode) s s′ n r r′
-          → Reading 1 (E.expression (within x) b) (Encodes encode) s s′ n r r′
+          → Reads-by (E.expression (within x) b) s s′ n r r′
       expression-not q d = chosen kinds _ (λ src at h. at-not x b rung src at ∙ rw (eq-eqb _ _ (h ∙ q))) d
 
       pub expression-shift :
-          (kind ≡ K.NOT → ⊥) → Reading 1 (E.expression (within x) (b - 1)) (Encodes encode) s s′ n r r′
-          → Reading 1 (E.expression (within x) b) (Encodes encode) s s′ n r r′
+          (kind ≡ K.NOT → ⊥) → Reads-by (E.expression (within x) (b - 1)) s s′ n r r′
+          → Reads-by (E.expression (within x) b) s s′ n r r′
       expression-shift q d =
           let z : 4 ≡ b - 1 = omega arith in
           picked kinds _ (λ src at h. at-not x b rung src at ∙ rw (ne-eqb (kindAt src at) K.NOT (λ y. q (sym h ∙ y)))
           (ap (λ (y : ℕ). E.expression (within x) y src at) z)) d
 
-    pub primary-bracketed :
-        kind ≡ K.OPEN → Reading 1 (E.bracketed (within x)) (Encodes encode) s s′ n r r′
-        → Reading 1 (E.primary (within x)) (Encodes encode) s s′ n r r′
+    pub primary-bracketed : kind ≡ K.OPEN → Reads-by (E.bracketed (within x)) s s′ n r r′ → Reads-by (E.primary (within x)) s s′ n r r′
     unfolding E.primary
     primary-bracketed q d = picked kinds _ (λ src at h. rw (h ∙ q)) d
 
-    pub primary-valof :
-        kind ≡ K.VALOF → Reading 1 (E.valof (within x)) (Encodes encode) s s′ n r r′ → Reading 1 (E.primary (within x)) (Encodes encode) s s′ n r r′
+    pub primary-valof : kind ≡ K.VALOF → Reads-by (E.valof (within x)) s s′ n r r′ → Reads-by (E.primary (within x)) s s′ n r r′
     unfolding E.primary
     primary-valof q d = picked kinds _ (λ src at h. rw (h ∙ q)) d
 
     pub primary-atom :
         Unlike kind (K.VALOF ∷ K.OPEN ∷ []) → ReadingAt kind 1 atomic (Encodes encode) s s′ n r r′
-        → Reading 1 (E.primary (within x)) (Encodes encode) s s′ n r r′
+        → Reads-by (E.primary (within x)) s s′ n r r′
     unfolding E.primary atomic
     primary-atom u d =
         let q = unlike2 u in

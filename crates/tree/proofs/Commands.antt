@@ -1,10 +1,11 @@
 -- The readers of commands: what each construct's parts make together, one law for each.
-use Rattle.laws.proofs.Basics.{ℕ, _+_, _-_, _<_, _≤_, _≡_, refl, sym, ap, _∙_, List, [], _∷_, _++_, append-assoc, append-nil, Bool, true, false, cond}
-use Rattle.laws.proofs.Basics.{length, length-append, eqb, arith, eq-eqb, ne-eqb}
+use Rattle.laws.proofs.Basics.{ℕ, _+_, _-_, _<_, _≤_, _≡_, refl, sym, ap, _∙_, List, [], _∷_, _++_, append-nil, Bool, true, false, cond}
+use Rattle.laws.proofs.Basics.{length, eqb, arith, eq-eqb, ne-eqb}
 use Rattle.language.specs.Kinds as K
 use Rattle.language.specs.Kinds.{member}
 use Rattle.language.specs.Tree as T
-use Rattle.language.specs.Reader.{Source, ok, onOut, kindAt, placeAt, any, the, manyUpTo}
+use Rattle.language.specs.Tree.{Unlabelled}
+use Rattle.language.specs.Reader.{Reader, Source, ok, onOut, kindAt, placeAt, any, the, manyUpTo}
 use Rattle.language.specs.Binding.{LOOSEST, isRepeat, isGuard, isLeave}
 use Rattle.language.specs.Expressions as E
 use Rattle.language.specs.Commands as C
@@ -13,23 +14,14 @@ use Rattle.tree.specs.Reads.{Encodes, Reading, ReadingAt, HoldsSymbols, 
 use Rattle.tree.specs.Reads.{freeOf}
 use Rattle.tree.specs.Between.{leaving, repeatedBy, repeatedOnly, encodeRepeatedOnly}
 use Rattle.tree.specs.Encoding.{REPEATED, closed, encode, encodeCommand, encodeUnlabelled, encodeRepeats, repeated}
-use Rattle.tree.proofs.Steps.{follow, bind, here, added, adds-on, goes-on, _then_, nothing}
-use Rattle.tree.proofs.Symbols.{placed, stays}
+use Rattle.tree.proofs.Steps.{follow, bind, here, closes, added, adds-on, goes-on, _then_, nothing}
+use Rattle.tree.proofs.Symbols.{ends, placed, stays}
 use Rattle.tree.proofs.Chains.{chained, grown}
 use Rattle.text.proofs.Bytes.{Unlike}
 use Rattle.tree.proofs.Classes.{unlike5}
 use Rattle.tree.proofs.Choices.{KindsHere, chosen, picked}
 use Rattle.tree.proofs.Readers.{any-the, item-read, put-first, many-none, many-first}
 use Rattle.tree.specs.declared.scratch.State.{State}
-
--- two or three parts and a record
-pub two : (a b : List ℕ) (z v p k : ℕ) → z ≡ length a + length b → a ++ (b ++ (z ∷ v ∷ p ∷ k ∷ [])) ≡ closed (a ++ b) v p k
-two a b z v p k e = sym (append-assoc a b (z ∷ v ∷ p ∷ k ∷ [])) ∙ ap (λ (y : ℕ). (a ++ b) ++ (y ∷ v ∷ p ∷ k ∷ [])) (e ∙ sym (length-append a b))
-
-pub three :
-    (a b c : List ℕ) (z v p k : ℕ) → z ≡ length a + (length b + length c) → a ++ (b ++ (c ++ (z ∷ v ∷ p ∷ k ∷ []))) ≡ closed (a ++ (b ++ c)) v p k
-three a b c z v p k e =
-    ap (λ (w : List ℕ). a ++ w) (sym (append-assoc b c (z ∷ v ∷ p ∷ k ∷ []))) ∙ two a (b ++ c) z v p k (omega (arith, length-append b c))
 
 module _ {src : Source} {n : ℕ} {s : List ℕ} (l : HoldsSymbols src n s) {r : State} (size x : ℕ) {lo : ℕ} (lo-is : lo ≡ freeOf size r) where
   pub resultis-read :
@@ -38,10 +30,9 @@ module _ {src : Source} {n : ℕ} {s : List ℕ} (l : HoldsSymbols src n s) {r :
       → Reads (C.resultis (readers (within x)) src) encodeUnlabelled s s₃ r r₃
   unfolding C.resultis encodeUnlabelled
   resultis-read {p} h a b d =
-      here _ (placed l h K.RESULTIS (omega arith) (λ place m. onOut (E.expression (within x) LOOSEST src m) (λ e w. ok (T.resultis place e) w)))
-      (bind size (λ _. []) a (goes-on b then adds-on d)
-      (λ _ q₁. bind size encode b (adds-on d)
-      (λ e q₂. added size d (record { same = ap (λ (z : ℕ). encode e ++ (z ∷ 0 ∷ p ∷ K.RESULTIS ∷ [])) (omega arith) }))))
+      closes (Encodes encodeUnlabelled) size lo-is
+      (here _ (placed l h K.RESULTIS (omega arith) (λ place m. onOut (E.expression (within x) LOOSEST src m) (λ e w. ok (T.resultis place e) w)))
+      (bind size (λ _. []) a (goes-on b) (λ _ _. ends (T.resultis p) b (λ e. record { same = refl })))) d
 
   pub guarded-read :
       {kind : ℕ} {s₂ s₄ s₅ : List ℕ} {r₁ r₂ r₃ r₄ r₅ : State} → KindHere src r kind → Reads (the kind src) (λ _. []) s s r r₁
@@ -50,13 +41,11 @@ module _ {src : Source} {n : ℕ} {s : List ℕ} (l : HoldsSymbols src n s) {r :
       → Reads (C.guarded (readers (within x)) src) encodeUnlabelled s s₅ r r₅
   unfolding C.guarded any encodeUnlabelled
   guarded-read {kind} k a b c d f =
-      here _ (any-the k (λ y _ m. onOut (E.expression (within x) LOOSEST src m)
+      closes (Encodes encodeUnlabelled) size lo-is
+      (here _ (any-the k (λ y _ m. onOut (E.expression (within x) LOOSEST src m)
       (λ e q. onOut (the K.DO src q) (λ _ w. onOut (C.command (within x) src w) (λ c u. ok (T.guarded y e c) u)))))
-      (bind size (λ _. []) a (goes-on b then goes-on c then goes-on d then adds-on f)
-      (λ _ q₁. bind size encode b (goes-on c then goes-on d then adds-on f)
-      (λ e q₂. bind size (λ _. []) c (goes-on d then adds-on f)
-      (λ _ q₃. bind size encodeCommand d (adds-on f)
-      (λ y q₄. added size f (record { same = two (encode e) (encodeCommand y) _ 0 0 kind (omega arith) }))))))
+      (bind size (λ _. []) a (goes-on b then goes-on c then goes-on d) (λ _ _. bind size encode b (goes-on c then goes-on d)
+      (λ e _. bind size (λ _. []) c (goes-on d) (λ _ _. ends (T.guarded kind e) d (λ y. record { same = refl })))))) f
 
   pub test-read :
       {s₂ s₄ s₆ s₇ : List ℕ} {r₁ r₂ r₃ r₄ r₅ r₆ r₇ : State} → Reads (the K.TEST src) (λ _. []) s s r r₁
@@ -66,13 +55,11 @@ module _ {src : Source} {n : ℕ} {s : List ℕ} (l : HoldsSymbols src n s) {r :
       → Reads (C.test (readers (within x)) src) encodeUnlabelled s s₇ r r₇
   unfolding C.test encodeUnlabelled
   test-read a b c d f g i =
-      bind size (λ _. []) a (goes-on b then goes-on c then goes-on d then goes-on f then goes-on g then adds-on i)
-      (λ _ q₁. bind size encode b (goes-on c then goes-on d then goes-on f then goes-on g then adds-on i)
-      (λ e q₂. bind size (λ _. []) c (goes-on d then goes-on f then goes-on g then adds-on i)
-      (λ _ q₃. bind size encodeCommand d (goes-on f then goes-on g then adds-on i)
-      (λ y q₄. bind size (λ _. []) f (goes-on g then adds-on i)
-      (λ _ q₅. bind size encodeCommand g (adds-on i)
-      (λ z q₆. added size i (record { same = three (encode e) (encodeCommand y) (encodeCommand z) _ 0 0 K.TEST (omega arith) })))))))
+      closes (Encodes encodeUnlabelled) size lo-is
+      (bind size (λ _. []) a (goes-on b then goes-on c then goes-on d then goes-on f then goes-on g)
+      (λ _ _. bind size encode b (goes-on c then goes-on d then goes-on f then goes-on g)
+      (λ e _. bind size (λ _. []) c (goes-on d then goes-on f then goes-on g) (λ _ _. bind size encodeCommand d (goes-on f then goes-on g)
+      (λ y _. bind size (λ _. []) f (goes-on g) (λ _ _. ends (T.test e y) g (λ z. record { same = refl }))))))) i
 
 -- REPEAT forms
 module _ (src : Source) {r : State} (size x : ℕ) {kind : ℕ} (k : KindHere src r kind) {s s₁ : List ℕ} {r₀ r₁ : State} where
@@ -154,34 +141,31 @@ stays-on : (isLeave K.TEST ≡ false) × (isLeave K.FOR ≡ false) × (isLeave K
 unfolding isLeave member
 stays-on = (refl, refl, refl, refl)
 
+abbrev Command : Reader Unlabelled → (s s′ : List ℕ) → ℕ → (r r′ : State) → Type 0
+Command read s s′ n r r′ = Reading 1 read (Encodes encodeUnlabelled) s s′ n r r′
+
 module _ (x : ℕ) {s s′ : List ℕ} {n : ℕ} {r r′ : State} {kind : ℕ} (kinds : KindsHere s n r kind) where
-  pub unlabelled-test :
-      kind ≡ K.TEST → Reading 1 (C.test (readers (within x))) (Encodes encodeUnlabelled) s s′ n r r′
-      → Reading 1 (C.unlabelled (readers (within x))) (Encodes encodeUnlabelled) s s′ n r r′
+  pub unlabelled-test : kind ≡ K.TEST → Command (C.test (readers (within x))) s s′ n r r′ → Command (C.unlabelled (readers (within x))) s s′ n r r′
   unfolding C.unlabelled
   unlabelled-test q d = picked kinds _ (λ src at h. rw (h ∙ q)) d
 
   pub unlabelled-resultis :
-      kind ≡ K.RESULTIS → Reading 1 (C.resultis (readers (within x))) (Encodes encodeUnlabelled) s s′ n r r′
-      → Reading 1 (C.unlabelled (readers (within x))) (Encodes encodeUnlabelled) s s′ n r r′
+      kind ≡ K.RESULTIS → Command (C.resultis (readers (within x))) s s′ n r r′
+      → Command (C.unlabelled (readers (within x))) s s′ n r r′
   unfolding C.unlabelled isGuard member
   unlabelled-resultis q d = picked kinds _ (λ src at h. rw (h ∙ q)) d
 
-  pub unlabelled-for :
-      kind ≡ K.FOR → Reading 1 (C.for (readers (within x))) (Encodes encodeUnlabelled) s s′ n r r′
-      → Reading 1 (C.unlabelled (readers (within x))) (Encodes encodeUnlabelled) s s′ n r r′
+  pub unlabelled-for : kind ≡ K.FOR → Command (C.for (readers (within x))) s s′ n r r′ → Command (C.unlabelled (readers (within x))) s s′ n r r′
   unfolding C.unlabelled isGuard member
   unlabelled-for q d = picked kinds _ (λ src at h. rw (h ∙ q)) d
 
   pub unlabelled-switchon :
-      kind ≡ K.SWITCHON → Reading 1 (C.switchon (readers (within x))) (Encodes encodeUnlabelled) s s′ n r r′
-      → Reading 1 (C.unlabelled (readers (within x))) (Encodes encodeUnlabelled) s s′ n r r′
+      kind ≡ K.SWITCHON → Command (C.switchon (readers (within x))) s s′ n r r′
+      → Command (C.unlabelled (readers (within x))) s s′ n r r′
   unfolding C.unlabelled isGuard member
   unlabelled-switchon q d = picked kinds _ (λ src at h. rw (h ∙ q)) d
 
-  pub unlabelled-block :
-      kind ≡ K.BEGIN → Reading 1 (C.block (readers (within x))) (Encodes encodeUnlabelled) s s′ n r r′
-      → Reading 1 (C.unlabelled (readers (within x))) (Encodes encodeUnlabelled) s s′ n r r′
+  pub unlabelled-block : kind ≡ K.BEGIN → Command (C.block (readers (within x))) s s′ n r r′ → Command (C.unlabelled (readers (within x))) s s′ n r r′
   unfolding C.unlabelled isGuard isLeave member
   unlabelled-block q d = picked kinds _ (λ src at h. rw (h ∙ q)) d
 
@@ -189,7 +173,7 @@ module _ (x : ℕ) {s s′ : List ℕ} {n : ℕ} {r r′ : State} {kind : ℕ} (
   module _ {g : Bool} (guard : g ≡ isGuard kind) where
     pub unlabelled-guarded :
         g ≡ true → ReadingAt kind 1 (C.guarded (readers (within x))) (Encodes encodeUnlabelled) s s′ n r r′
-        → Reading 1 (C.unlabelled (readers (within x))) (Encodes encodeUnlabelled) s s′ n r r′
+        → Command (C.unlabelled (readers (within x))) s s′ n r r′
     unfolding C.unlabelled
     unlabelled-guarded q d =
         chosen kinds _ (λ src at h. rw (other {x = K.TEST} h (differs isGuard (sym guard ∙ q) not-test), ap isGuard h ∙ sym guard ∙ q)) d
@@ -197,7 +181,7 @@ module _ (x : ℕ) {s s′ : List ℕ} {n : ℕ} {r r′ : State} {kind : ℕ} (
     module _ (p : g ≡ false) {w : Bool} (leave : w ≡ isLeave kind) where
       pub unlabelled-leave :
           w ≡ true → ReadingAt kind 1 leaving (Encodes encodeUnlabelled) s s′ n r r′
-          → Reading 1 (C.unlabelled (readers (within x))) (Encodes encodeUnlabelled) s s′ n r r′
+          → Command (C.unlabelled (readers (within x))) s s′ n r r′
       unfolding C.unlabelled C.leave leaving
       unlabelled-leave q d =
           let yes = sym leave ∙ q in
@@ -215,8 +199,7 @@ module _ (x : ℕ) {s s′ : List ℕ} {n : ℕ} {r r′ : State} {kind : ℕ} (
 
       pub unlabelled-other :
           w ≡ false → Unlike kind (K.BEGIN ∷ K.RESULTIS ∷ K.SWITCHON ∷ K.FOR ∷ K.TEST ∷ [])
-          → Reading 1 (C.assignmentOrCall (readers (within x))) (Encodes encodeUnlabelled) s s′ n r r′
-          → Reading 1 (C.unlabelled (readers (within x))) (Encodes encodeUnlabelled) s s′ n r r′
+          → Command (C.assignmentOrCall (readers (within x))) s s′ n r r′ → Command (C.unlabelled (readers (within x))) s s′ n r r′
       unfolding C.unlabelled
       unlabelled-other q u d =
           let v = unlike5 u in

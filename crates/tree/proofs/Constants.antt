@@ -9,9 +9,9 @@ use Rattle.language.specs.Expressions.{Inside, inside, opening}
 use Rattle.language.specs.Grammar.{within, readers}
 use Rattle.tree.specs.Reads.{LeavesRoom, TakesRoom, Encodes, Reading, ReadingAt, HoldsSymbols, Here, Reads, Adds, recordFrom, freeOf}
 use Rattle.tree.specs.Encoding.{closed, leaf, encodeName, encodeNegative, encodeConstant}
-use Rattle.tree.proofs.Steps.{bind, here, added, adds-on, goes-on}
+use Rattle.tree.proofs.Steps.{onOut-id, bind, here, added, adds-on, goes-on}
 use Rattle.tree.proofs.Symbols.{placed, mapped}
-use Rattle.tree.proofs.Leaves.{ValuesHere, symbol-is, name-at, nameOf, same-out}
+use Rattle.tree.proofs.Leaves.{ValuesHere, symbol-is, name-at, nameOf}
 use Rattle.tree.proofs.Rooms.{leaves-last, left, _less_, room-left}
 use Rattle.tree.proofs.Classes.{unlike3}
 use Rattle.text.proofs.Bytes.{Unlike}
@@ -32,7 +32,7 @@ pub negated-name-read :
     → Reads first (λ at. leaf value at K.NAME) s s₁ r r₁ → Adds (recordFrom lo 0 place K.MINUS) s₁ s₂ r₁ r₂
     → Reads first (λ at. closed (leaf value at K.NAME) 0 place 36) s s₂ r r₂
 negated-name-read {first} size {value} {place} {lo} {s} {s₁} {s₂} {r} {r₁} {r₂} lo-is d a =
-    here (λ at. onOut (first at) (λ x m. ok x m)) (λ at free q. same-out (first at))
+    here (λ at. onOut (first at) (λ x m. ok x m)) (λ at free q. onOut-id (first at))
     (bind size (λ at. leaf value at K.NAME) d (adds-on a)
     (λ x q. added size a (record { same = ap (λ (z : ℕ). leaf value x K.NAME ++ (z ∷ 0 ∷ place ∷ K.MINUS ∷ [])) (omega arith) })))
 

@@ -2,6 +2,7 @@
 use Rattle.laws.proofs.Basics.{ℕ, zero, suc, _+_, _-_, _*_, _/_, _^_, _<_, _≤_, _≡_, refl, sym, ap, subst, _∙_, List, _++_, Bool, true, false, cond}
 use Rattle.laws.proofs.Basics.{length, getD, take, drop, replicate, List·getD-eq-default, length-take-le, getD-drop, ltb, arith, ltb-true, ltb-false}
 use Rattle.laws.proofs.Basics.{lt-ltb, le-ltb}
+use Rattle.laws.proofs.Cases.{by-cases, contradiction}
 use Rattle.language.specs.Symbols.{Symbol}
 use Rattle.language.specs.Reader.{Source, Out, ok, no, placeAt}
 use Rattle.language.specs.Tree.{Program}
@@ -58,16 +59,11 @@ place-past s n size at h = sym (ap (λ (x : Symbol). x .place) (List·getD-eq-de
 
 -- places stay where the symbols do
 module _ (s s′ : List ℕ) (n size at : ℕ) (e : take (n * 3) s′ ≡ take (n * 3) s) where
-  keptBy : (b : Bool) → ltb at n ≡ b → placeAt (sourceIn s′ n size) at ≡ placeAt (sourceIn s n size) at
-  keptBy true q =
-      let h : at < n = ltb-true at n q in
-      sym (lies s′ n size .places at h) ∙ lies-still (lies s n size) e .places at h
-  keptBy false q =
-      let h : n ≤ at = ltb-false at n q in
-      sym (place-past s′ n size at h) ∙ place-past s n size at h
-
   place-kept : placeAt (sourceIn s′ n size) at ≡ placeAt (sourceIn s n size) at
-  place-kept = keptBy (ltb at n) refl
+  place-kept =
+      by-cases (ltb at n)
+      (λ q. let h = ltb-true at n q in sym (lies s′ n size .places at h) ∙ lies-still (lies s n size) e .places at h)
+      (λ q. let h = ltb-false at n q in sym (place-past s′ n size at h) ∙ place-past s n size at h)
 
 -- whether scratch is fit
 module _ (room count : ℕ) where
@@ -88,16 +84,14 @@ module _ (room count : ℕ) where
   unfolding tooShort
   too-short-not h q = sym (ap (λ (b : Bool). cond b true (ltb (2 ^ 32 - 1) room)) (le-ltb room (count * 8 + 64) q) ∙ le-ltb (2 ^ 32 - 1) room h)
 
-  restBy : (b : Bool) → ltb ((room - 64) / 8) count ≡ b → room ≤ 2 ^ 32 - 1 → 64 ≤ room → b ≡ tooShort room count
-  restBy true e h q = too-short-few (omega (arith, ltb-true ((room - 64) / 8) count e))
-  restBy false e h q = too-short-not h (omega (arith, ltb-false ((room - 64) / 8) count e))
-
   pub too-short-rest : room ≤ 2 ^ 32 - 1 → 64 ≤ room → ltb ((room - 64) / 8) count ≡ tooShort room count
-  too-short-rest h q = restBy (ltb ((room - 64) / 8) count) refl h q
+  too-short-rest h q =
+      by-cases (ltb ((room - 64) / 8) count) (λ e. e ∙ too-short-few (omega (arith, ltb-true ((room - 64) / 8) count e)))
+      (λ e. e ∙ too-short-not h (omega (arith, ltb-false ((room - 64) / 8) count e)))
 
   fitBy : (b c : Bool) → ltb room (count * 8 + 64) ≡ b → ltb (2 ^ 32 - 1) room ≡ c → cond b true c ≡ false → (count * 8 + 64 ≤ room) × (room < 2 ^ 32)
-  fitBy true c e f g = let z : _≡_ {A = ℕ} 1 0 = ap (λ (b : Bool). cond b 1 0) g in absurd (omega arith)
-  fitBy false true e f g = let z : _≡_ {A = ℕ} 1 0 = ap (λ (b : Bool). cond b 1 0) g in absurd (omega arith)
+  fitBy true c e f g = contradiction cc
+  fitBy false true e f g = contradiction cc
   fitBy false false e f g = (ltb-false room (count * 8 + 64) e, omega (arith, ltb-false (2 ^ 32 - 1) room f))
 
   fit-is : tooShort room count ≡ false → (count * 8 + 64 ≤ room) × (room < 2 ^ 32)

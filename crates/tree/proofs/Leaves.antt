@@ -12,7 +12,7 @@ use Rattle.tree.proofs.Rooms.{leaves-less}
 use Rattle.tree.proofs.Choices.{Refusing}
 use Rattle.tree.proofs.Classes.{unlike3, unlike5}
 use Rattle.text.proofs.Bytes.{Unlike}
-use Rattle.tree.proofs.Steps.{bind, here, added, adds-on, stopped}
+use Rattle.tree.proofs.Steps.{onOut-id, bind, here, added, adds-on, stopped}
 use Rattle.tree.proofs.Symbols.{placed, mapped, the-is, inside}
 use Rattle.tree.specs.declared.scratch.State.{State}
 use Rattle.tree.specs.declared.scratch.State.the-variants.{Read}
@@ -32,16 +32,22 @@ module _ {src : Source} {n : ℕ} {s : List ℕ} (l : HoldsSymbols src n s) {r :
   leaf-read size {p} {kind} {value} {tag} {lo} {s′} {r₁} {r₂} h pos d e a =
       let z : freeOf size r₁ - lo ≡ 0 = omega arith in
       here (λ at. onOut (the kind src at) (λ _ m. ok p m))
-      (λ at free q. itself (the kind src at) ∙ placed l h kind pos (λ x m. ok x m) at free q)
+      (λ at free q. onOut-id (the kind src at) ∙ placed l h kind pos (λ x m. ok x m) at free q)
       (bind size (λ _. []) d (adds-on a) (λ _ _. added size a (record { same = ap (λ (x : ℕ). x ∷ value ∷ p ∷ tag ∷ []) z })))
-    where
-      itself : (o : Out ℕ) → o ≡ onOut o (λ x m. ok x m)
-      itself (ok a m) = refl
-      itself (no k q) = refl
 
 -- what `value_here` ensures, whatever the source
 abbrev pub ValuesHere : (s : List ℕ) → (n : ℕ) → State → (v : ℕ) → Type 0
 ValuesHere s n r v = (src : Source) → HoldsSymbols src n s → Here (valueAt src) n r v
+
+-- a leaf of the tree, and what is read where a symbol of that kind stands
+abbrev IsLeaf : (x value tag : ℕ) → (s s′ : List ℕ) → ℕ → (r r′ : State) → Type 0
+IsLeaf x value tag s s′ n r r′ = Reading 1 (the x) (Encodes (λ place. leaf value place tag)) s s′ n r r′
+
+abbrev IsAtom : (kind : ℕ) → (s s′ : List ℕ) → ℕ → (r r′ : State) → Type 0
+IsAtom kind s s′ n r r′ = ReadingAt kind 1 atomic (Encodes encode) s s′ n r r′
+
+abbrev IsConstant : (kind : ℕ) → (s s′ : List ℕ) → ℕ → (r r′ : State) → Type 0
+IsConstant kind s s′ n r r′ = ReadingAt kind 1 positive (Encodes encodeConstant) s s′ n r r′
 
 module _ {s s′ : List ℕ} {n : ℕ} {r r′ : State} {v : ℕ} (values : ValuesHere s n r v) where
   -- a symbol of that kind, which makes F of its place
@@ -65,52 +71,36 @@ module _ {s s′ : List ℕ} {n : ℕ} {r r′ : State} {v : ℕ} (values : Valu
         → Reading 1 (the x) (Encodes (λ place. leaf value place tag)) s s′ n r r′ → ReadingAt kind 1 read (Encodes enc) s s′ n r r′
     symbol-leaf F pos e law q d = (d .0, λ src l k. symbol-is F pos e law q src l k (d .1 src l))
 
-    pub number-read :
-        kind ≡ K.NUMBER → Reading 1 (the K.NUMBER) (Encodes (λ place. leaf v place K.NUMBER)) s s′ n r r′
-        → ReadingAt kind 1 atomic (Encodes encode) s s′ n r r′
+    pub number-read : kind ≡ K.NUMBER → IsLeaf K.NUMBER v K.NUMBER s s′ n r r′ → IsAtom kind s s′ n r r′
     unfolding atomic numeral any encode
     number-read q d = symbol-leaf (λ place. T.number place v) (omega arith) (λ src at y z. rw (y, ← z)) (λ _. refl) q d
 
-    pub string-read :
-        kind ≡ K.STRING → Reading 1 (the K.STRING) (Encodes (λ place. leaf v place K.STRING)) s s′ n r r′
-        → ReadingAt kind 1 atomic (Encodes encode) s s′ n r r′
+    pub string-read : kind ≡ K.STRING → IsLeaf K.STRING v K.STRING s s′ n r r′ → IsAtom kind s s′ n r r′
     unfolding atomic quotation any encode
     string-read q d = symbol-leaf (λ place. T.string place v) (omega arith) (λ src at y z. rw (y, ← z)) (λ _. refl) q d
 
-    pub name-read :
-        kind ≡ K.NAME → Reading 1 (the K.NAME) (Encodes (λ place. leaf v place K.NAME)) s s′ n r r′
-        → ReadingAt kind 1 atomic (Encodes encode) s s′ n r r′
+    pub name-read : kind ≡ K.NAME → IsLeaf K.NAME v K.NAME s s′ n r r′ → IsAtom kind s s′ n r r′
     unfolding atomic named aName encode encodeName
     name-read q d = symbol-leaf (λ place. T.name (nameOf place v)) (omega arith) (λ src at y z. rw (y, ← z)) (λ _. refl) q d
 
-    pub true-read :
-        kind ≡ K.TRUE → Reading 1 (the K.TRUE) (Encodes (λ place. leaf 65535 place K.NUMBER)) s s′ n r r′
-        → ReadingAt kind 1 atomic (Encodes encode) s s′ n r r′
+    pub true-read : kind ≡ K.TRUE → IsLeaf K.TRUE 65535 K.NUMBER s s′ n r r′ → IsAtom kind s s′ n r r′
     unfolding atomic truth any encode
     true-read q d = symbol-leaf {x = K.TRUE} (λ place. T.number place 65535) (omega arith) (λ src at y z. rw y) (λ _. refl) q d
 
-    pub false-read :
-        kind ≡ K.FALSE → Reading 1 (the K.FALSE) (Encodes (λ place. leaf 0 place K.NUMBER)) s s′ n r r′
-        → ReadingAt kind 1 atomic (Encodes encode) s s′ n r r′
+    pub false-read : kind ≡ K.FALSE → IsLeaf K.FALSE 0 K.NUMBER s s′ n r r′ → IsAtom kind s s′ n r r′
     unfolding atomic truth any encode
     false-read q d = symbol-leaf {x = K.FALSE} (λ place. T.number place 0) (omega arith) (λ src at y z. rw y) (λ _. refl) q d
 
     -- a constant without a minus
-    pub positive-number :
-        kind ≡ K.NUMBER → Reading 1 (the K.NUMBER) (Encodes (λ place. leaf v place K.NUMBER)) s s′ n r r′
-        → ReadingAt kind 1 positive (Encodes encodeConstant) s s′ n r r′
+    pub positive-number : kind ≡ K.NUMBER → IsLeaf K.NUMBER v K.NUMBER s s′ n r r′ → IsConstant kind s s′ n r r′
     unfolding positive place-here simple literal any encodeConstant encodePositive
     positive-number q d = symbol-leaf (λ place. plain place (T.literal v)) (omega arith) (λ src at y z. rw (y, ← z)) (λ _. refl) q d
 
-    pub positive-true :
-        kind ≡ K.TRUE → Reading 1 (the K.TRUE) (Encodes (λ place. leaf 65535 place K.NUMBER)) s s′ n r r′
-        → ReadingAt kind 1 positive (Encodes encodeConstant) s s′ n r r′
+    pub positive-true : kind ≡ K.TRUE → IsLeaf K.TRUE 65535 K.NUMBER s s′ n r r′ → IsConstant kind s s′ n r r′
     unfolding positive place-here simple truthLiteral any encodeConstant encodePositive
     positive-true q d = symbol-leaf {x = K.TRUE} (λ place. plain place (T.literal 65535)) (omega arith) (λ src at y z. rw y) (λ _. refl) q d
 
-    pub positive-false :
-        kind ≡ K.FALSE → Reading 1 (the K.FALSE) (Encodes (λ place. leaf 0 place K.NUMBER)) s s′ n r r′
-        → ReadingAt kind 1 positive (Encodes encodeConstant) s s′ n r r′
+    pub positive-false : kind ≡ K.FALSE → IsLeaf K.FALSE 0 K.NUMBER s s′ n r r′ → IsConstant kind s s′ n r r′
     unfolding positive place-here simple truthLiteral any encodeConstant encodePositive
     positive-false q d = symbol-leaf {x = K.FALSE} (λ place. plain place (T.literal 0)) (omega arith) (λ src at y z. rw y) (λ _. refl) q d
 
@@ -143,16 +133,12 @@ leave-read {src} {kind} k d =
     ∙ sym (ap (λ (o : Out ℕ). onOut o (λ place m. ok (T.leave kind place) m)) (the-is src kind at (sym q)))) (mapped (T.leave kind) (λ _. refl) d)
 
 -- a number and its record at another place
-pub same-out : (o : Out ℕ) → o ≡ onOut o (λ x m. ok x m)
-same-out (ok a m) = refl
-same-out (no k q) = refl
-
 pub negated-read :
     {first : ℕ → Out ℕ} (size : ℕ) {value place lo : ℕ} {s s′ : List ℕ} {r r₁ r₂ : State} → Reads first (λ _. []) s s r r₁ → lo ≡ freeOf size r₁
     → Adds (recordFrom lo value place K.MINUS) s s′ r₁ r₂ → Reads first (λ _. leaf value place K.MINUS) s s′ r r₂
 negated-read {first} size {value} {place} {lo} {s} {s′} {r} {r₁} {r₂} d e a =
     let z : freeOf size r₁ - lo ≡ 0 = omega arith in
-    here (λ at. onOut (first at) (λ x m. ok x m)) (λ at free q. same-out (first at))
+    here (λ at. onOut (first at) (λ x m. ok x m)) (λ at free q. onOut-id (first at))
     (bind size (λ _. []) d (adds-on a) (λ _ _. added size a (record { same = ap (λ (x : ℕ). x ∷ value ∷ place ∷ K.MINUS ∷ []) z })))
 
 -- the place that is read is that of the symbol here

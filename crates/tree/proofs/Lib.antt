@@ -1,9 +1,11 @@
+pub mod Asked
 pub mod Steps
 pub mod Lists
 pub mod ListEnd
 pub mod Helpers
 pub mod Rooms
 pub mod Symbols
+pub mod Wholes
 pub mod Loops
 pub mod Classes
 pub mod Leaves

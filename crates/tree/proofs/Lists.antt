@@ -4,6 +4,7 @@ use Rattle.laws.proofs.Basics.{true, false, length, set, take, length-append, l
 use Rattle.language.specs.Reader.{Source, Out, ok, no, Reader, onOut, manyUpTo, kindAt}
 use Rattle.tree.specs.Reads.{Wrote, FollowsBy, Follows, Adds, SetsSize, freeOf}
 use Rattle.tree.specs.Encoding.{item}
+use Rattle.tree.proofs.Steps.{onOut-id}
 use Rattle.tree.specs.declared.scratch.State.{State}
 use Rattle.tree.specs.declared.scratch.State.the-variants.{Read, Refused}
 
@@ -63,10 +64,6 @@ sized {read = read} {Says} Says′ tag {lo} {s₀} {s₁} {s₂} {r₀ = Read at
         size = omega (arith, v .size);
       };
     }
-
-onOut-id : {A : Type 0} (o : Out A) → o ≡ onOut o (λ more m. ok more m)
-onOut-id (ok a m) = refl
-onOut-id (no k p) = refl
 
 onOut-put :
     {A : Type 0} (o : Out A) (put put′ : A → A)

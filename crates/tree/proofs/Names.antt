@@ -1,8 +1,7 @@
 -- Names, one and after commas, and what may be left out: a symbol, and BY with its constant.
 use Rattle.laws.proofs.Basics.{ℕ, _≡_, refl, sym, ap, _∙_, List, [], Bool, true, false, cond, some, none, arith, eq-eqb, ne-eqb}
 use Rattle.language.specs.Kinds as K
-use Rattle.language.specs.Tree.{Name}
-use Rattle.language.specs.Reader.{Source, Out, ok, no, onOut, kindAt, valueAt, the, optional, aName}
+use Rattle.language.specs.Reader.{Source, Out, ok, onOut, kindAt, valueAt, the, optional, aName}
 use Rattle.language.specs.Expressions as E
 use Rattle.language.specs.Commands as C
 use Rattle.language.specs.Grammar.{within, readers}
@@ -11,21 +10,17 @@ use Rattle.tree.specs.Between.{aFurtherName}
 use Rattle.tree.specs.Encoding.{leaf, encodeName, encodeNames, encodeConstant, encodeBy}
 use Rattle.tree.proofs.Choices.{KindsHere, Expects, picked}
 use Rattle.tree.proofs.Rooms.{leaves-all, leaves-less, leaves-last}
-use Rattle.tree.proofs.Steps.{bind, here, goes-on, nothing}
+use Rattle.tree.proofs.Steps.{onOut-id, bind, here, goes-on, nothing}
 use Rattle.tree.proofs.Symbols.{mapped, the-is, stays}
 use Rattle.tree.proofs.Leaves.{name-at, nameOf}
 use Rattle.tree.specs.declared.scratch.State.{State}
-
-same-name : (o : Out Name) → o ≡ onOut o (λ y m. ok y m)
-same-name (ok y m) = refl
-same-name (no k p) = refl
 
 pub a-name-read :
     {src : Source} {n : ℕ} {s s′ : List ℕ} {r r′ : State} {value : ℕ} → HoldsSymbols src n s → Here (valueAt src) n r value
     → Reads (the K.NAME src) (λ place. leaf value place K.NAME) s s′ r r′ → Reads (aName src) encodeName s s′ r r′
 unfolding encodeName
 a-name-read {src} {value = value} l h d =
-    here _ (λ at free e. same-name (aName src at) ∙ name-at l h (λ y m. ok y m) at free e) (mapped (λ place. nameOf place value) (λ _. refl) d)
+    here _ (λ at free e. onOut-id (aName src at) ∙ name-at l h (λ y m. ok y m) at free e) (mapped (λ place. nameOf place value) (λ _. refl) d)
 
 -- a comma and a name
 pub further-name-reads :

@@ -15,9 +15,9 @@ use Rattle.tree.specs.Reads.{behindFrom, SetsSize, freeOf}
 use Rattle.tree.specs.Between.{PrependsSuffix, PrependsOne, anArgument, aFurther, rightOf}
 use Rattle.tree.specs.Encoding.{MONADIC, DYADIC, item, behind, closed, suffixedKind, encode, encodeExpressions, encodeSuffixes}
 use Rattle.tree.specs.Encoding.{encodeOperations, encodeCommand}
-use Rattle.tree.proofs.Steps.{follow, bind, here, added, adds-on, goes-on, _then_, nothing}
+use Rattle.tree.proofs.Steps.{follow, bind, here, closes, added, adds-on, goes-on, _then_, nothing}
 use Rattle.tree.proofs.Lists.{sized, last, turned}
-use Rattle.tree.proofs.Symbols.{inside as among, placed, mapped, the-is, stays}
+use Rattle.tree.proofs.Symbols.{inside as among, ends, placed, mapped, the-is, stays}
 use Rattle.tree.proofs.Classes.{positive}
 use Rattle.tree.proofs.Rooms.{left, _less_, room-left}
 use Rattle.tree.specs.declared.scratch.State.{State}
@@ -45,24 +45,22 @@ module _ {src : Source} {n : ℕ} {s : List ℕ} (l : HoldsSymbols src n s) {r :
       → Reads (E.bracketed (within x) src) encode s s₃ r r₄
   unfolding E.bracketed opening encode
   bracketed-read a b c d =
-      here (E.bracketed (inside (readers (within (x - 1)))) src) (λ at free e. ap (λ (i : Inside). E.bracketed i src at) (deeper x deep))
+      closes (Encodes encode) size lo-is
+      (here (E.bracketed (inside (readers (within (x - 1)))) src) (λ at free e. ap (λ (i : Inside). E.bracketed i src at) (deeper x deep))
       (here _ (placed l h K.OPEN (omega arith)
       (λ place m. onOut (E.expression (within (x - 1)) LOOSEST src m) (λ e q. onOut (the K.CLOSE src q) (λ _ w. ok (T.bracketed place e) w))))
-      (bind size (λ _. []) a (goes-on b then goes-on c then adds-on d)
-      (λ _ q₁. bind size encode b (goes-on c then adds-on d)
-      (λ e q₂. bind size (λ _. []) c (adds-on d)
-      (λ _ q₃. added size d (record { same = ap (λ (z : ℕ). encode e ++ (z ∷ 0 ∷ p ∷ K.OPEN ∷ [])) (omega arith) }))))))
+      (bind size (λ _. []) a (goes-on b then goes-on c) (λ _ _. bind size encode b (goes-on c) (λ e _. bind size (λ _. []) c stays
+      (λ _ _. nothing (record { same = ap (λ (w : List ℕ). closed w 0 p K.OPEN) (append-nil (encode e)) }))))))) d
 
   pub valof-read :
       Reads (the K.VALOF src) (λ _. []) s s r r₁ → Reads (readers (within (x - 1)) .command src) encodeCommand s s₂ r₁ r₂
       → Adds (recordFrom lo 0 p K.VALOF) s₂ s₃ r₂ r₄ → Reads (E.valof (within x) src) encode s s₃ r r₄
   unfolding E.valof opening encode
   valof-read a b d =
-      here (E.valof (inside (readers (within (x - 1)))) src) (λ at free e. ap (λ (i : Inside). E.valof i src at) (deeper x deep))
+      closes (Encodes encode) size lo-is
+      (here (E.valof (inside (readers (within (x - 1)))) src) (λ at free e. ap (λ (i : Inside). E.valof i src at) (deeper x deep))
       (here _ (placed l h K.VALOF (omega arith) (λ place m. onOut (readers (within (x - 1)) .command src m) (λ c w. ok (T.valof place c) w)))
-      (bind size (λ _. []) a (goes-on b then adds-on d)
-      (λ _ q₁. bind size encodeCommand b (adds-on d)
-      (λ c q₂. added size d (record { same = ap (λ (z : ℕ). encodeCommand c ++ (z ∷ 0 ∷ p ∷ K.VALOF ∷ [])) (omega arith) })))))
+      (bind size (λ _. []) a (goes-on b) (λ _ _. ends (T.valof p) b (λ c. record { same = refl }))))) d
 
   pub monadic-read :
       {kind reach : ℕ} → KindHere src r kind → 0 < kind → reach ≡ reachOf kind → Reads (the kind src) (λ _. []) s s r r₁
@@ -70,12 +68,12 @@ module _ {src : Source} {n : ℕ} {s : List ℕ} (l : HoldsSymbols src n s) {r :
       → Reads (E.monadic (within x) src) encode s s₃ r r₄
   unfolding E.monadic opening any encode
   monadic-read {kind} {reach} k pos e a b d =
-      here (E.monadic (inside (readers (within (x - 1)))) src) (λ at free e. ap (λ (i : Inside). E.monadic i src at) (deeper x deep))
+      closes (Encodes encode) size lo-is
+      (here (E.monadic (inside (readers (within (x - 1)))) src) (λ at free e. ap (λ (i : Inside). E.monadic i src at) (deeper x deep))
       (here _ (any-the k (λ y place m. onOut (E.expression (within (x - 1)) (reachOf y) src m) (λ e q. ok (T.monadic place y e) q)))
       (here _ (placed l h kind pos (λ place m. onOut (E.expression (within (x - 1)) (reachOf kind) src m) (λ e q. ok (T.monadic place kind e) q)))
-      (bind size (λ _. []) a (goes-on b then adds-on d)
-      (λ _ q₁. bind size encode (subst (λ (y : ℕ). Reads (E.expression (within (x - 1)) y src) encode s s₂ r₁ r₂) e b) (adds-on d)
-      (λ e q₂. added size d (record { same = ap (λ (z : ℕ). encode e ++ (z ∷ kind ∷ p ∷ MONADIC ∷ [])) (omega arith) }))))))
+      (bind size (λ _. []) a (goes-on b) (λ _ _. ends (T.monadic p kind)
+      (subst (λ (y : ℕ). Reads (E.expression (within (x - 1)) y src) encode s s₂ r₁ r₂) e b) (λ e. record { same = refl })))))) d
 
 -- an item of a list
 module _ {A B : Type 0} (F : B → A → A) (tag size : ℕ) {body : ℕ → Out B} (enc : B → List ℕ) {lo : ℕ} {s s₁ s₂ s₃ : List ℕ}

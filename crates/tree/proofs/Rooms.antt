@@ -1,5 +1,5 @@
 -- Laws of room: what one call after another leaves of what the symbols read allow, and what the next call may ask.
-use Rattle.laws.proofs.Basics.{ℕ, _+_, _-_, _*_, _^_, _<_, _≤_, _≡_, ap, _∙_, List, true, length, take, leb, arith, leb-true}
+use Rattle.laws.proofs.Basics.{ℕ, _+_, _-_, _*_, _^_, _<_, _≤_, _≡_, refl, ap, _∙_, List, true, length, take, leb, arith, leb-true}
 use Rattle.tree.specs.Reads.{Ready, LeavesRoom, TakesRoom, nextOf, lowOf, freeOf, live, reach}
 use Rattle.tree.proofs.Helpers.{itself, base, low}
 use Rattle.tree.specs.declared.scratch.State.{State}
@@ -133,6 +133,27 @@ module _ {j : ℕ} {s : List ℕ} {n : ℕ} {r : State} where
   pub leaves-all : Ready j s n r → LeavesRoom 0 s s n r r
   leaves-all h = itself h
 
+-- the same after a call, by what it asked and ensures: of a symbol, of a part, and of a part that was asked something more
+module _ {s : List ℕ} {n : ℕ} {r r′ : State} {m : ℕ} {X Y : Type 0} where
+  pub past-symbol : leb m 5 ≡ true → (Ready 0 s n r × Y) × (LeavesRoom 5 s s n r r′ × X) → Ready m s n r′
+  past-symbol q e = ready-part (ready-leaves {m = 5} (e .1 .0) refl refl (e .0 .0)) q
+
+  module _ {s′ : List ℕ} {j k : ℕ} (q : leb m j ≡ true) where
+    pub past-part : (Y × Ready j s n r) × (LeavesRoom k s s′ n r r′ × X) → length s′ ≡ length s → Ready m s′ n r′
+    past-part e l =
+        let f = e .1 .0 in
+        let h = e .0 .1 in
+        record {
+          placed = f .placed;
+          above = f .above;
+          room = omega (arith, f .leaves, h .room, leb-true m j q);
+          wide = omega (arith, h .wide);
+          small = omega (arith, h .small);
+        }
+
+    pub past-expression : {Z : Type 0} → (Y × (Ready j s n r × Z)) × (LeavesRoom k s s′ n r r′ × X) → length s′ ≡ length s → Ready m s′ n r′
+    past-expression e = past-part ((e .0 .0, e .0 .1 .0), e .1)
+
 -- an item begins behind the symbols, and what it holds is smaller than an entry can count
 module _ {s : List ℕ} {n : ℕ} {r : State} where
   pub item-low : {lo : ℕ} → lo ≡ freeOf (length s) r → Ready 0 s n r → n * 3 ≤ lo
@@ -147,3 +168,9 @@ freed r e k = e ∙ ap (λ (x : ℕ). freeOf x r) k
 
 pub measured : (r : State) (lo : ℕ) {size free z z′ : ℕ} → size ≡ free - lo → free ≡ freeOf z′ r → z′ ≡ z → size ≡ freeOf z r - lo
 measured r lo q e k = q ∙ ap (λ (y : ℕ). y - lo) (freed r e k)
+
+-- the size of what stands between two states
+pub for-size :
+    (r r′ : State) {value free free′ z z′ : ℕ} → value ≡ free - free′ → free ≡ freeOf z′ r → free′ ≡ freeOf z′ r′ → z′ ≡ z
+    → value ≡ freeOf z r - freeOf z r′
+for-size r r′ v e e′ k = let a = freed r e k in let b = freed r′ e′ k in omega arith

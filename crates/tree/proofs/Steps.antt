@@ -1,7 +1,9 @@
 -- How what the callees ensure makes what a reader ensures: one law for each way to go on.
-use Rattle.laws.proofs.Basics.{ℕ, _+_, _≡_, refl, sym, ap, subst, _∙_, List, [], _++_, append-assoc, append-nil, length, take, length-append, arith}
+use Rattle.laws.proofs.Basics.{ℕ, _+_, _-_, _≡_, refl, sym, ap, subst, _∙_, List, [], _∷_, _++_, append-assoc, append-nil, length, take}
+use Rattle.laws.proofs.Basics.{length-append, arith}
 use Rattle.language.specs.Reader.{Out, ok, no, onOut}
-use Rattle.tree.specs.Reads.{FollowsBy, Follows, Reads, PassesBy, Passes, Refuses, Adds, freeOf}
+use Rattle.tree.specs.Encoding.{closed}
+use Rattle.tree.specs.Reads.{recordFrom, FollowsBy, Follows, Reads, PassesBy, Passes, Refuses, Adds, freeOf}
 use Rattle.tree.specs.declared.scratch.State.{State}
 use Rattle.tree.specs.declared.scratch.State.the-variants.{Read, Refused}
 
@@ -134,6 +136,19 @@ added {a = a} {words} {Says} {s} {s′} size {r = Read at free} d h =
       by = subst (λ (x : State). FollowsBy (λ m. ok a m) Says s s′ (Read at free) x) (sym (d .by .0))
           (record { tree = a; words = words free; is = refl; says = h; written = d .by .1; size = refl });
     }
+
+pub onOut-id : {A : Type 0} (o : Out A) → o ≡ onOut o (λ more m. ok more m)
+onOut-id (ok a m) = refl
+onOut-id (no k p) = refl
+
+-- the record that ends what was read from lo on
+pub closes :
+    {A : Type 0} {read : ℕ → Out A} (Says : A → List ℕ → Type 0) {lo v p k : ℕ} {s s₁ s₂ : List ℕ} (size : ℕ) {r r₁ r₂ : State} → lo ≡ freeOf size r
+    → Follows read (λ a w. Says a (closed w v p k)) s s₁ r r₁ → Adds (recordFrom lo v p k) s₁ s₂ r₁ r₂ → Follows read Says s s₂ r r₂
+closes {read = read} Says {lo} {v} {p} {k} size {r} {r₁} e d a =
+    here (λ at. onOut (read at) (λ x m. ok x m)) (λ at free h. onOut-id (read at)) (follow size d (adds-on a) (λ x w h q.
+    let z : freeOf size r₁ - lo ≡ length w = omega arith in
+    added size a (subst (λ (y : ℕ). Says x (w ++ (y ∷ v ∷ p ∷ k ∷ []))) (sym z) h)))
 
 -- nothing is read and nothing written
 pub nothing : {A : Type 0} {a : A} {Says : A → List ℕ → Type 0} {s : List ℕ} {r : State} → Says a [] → Follows (λ m. ok a m) Says s s r r

@@ -1,15 +1,13 @@
 -- Laws of the symbols that stand in scratch.
-use Rattle.laws.proofs.Basics.{ℕ, _+_, _*_, _<_, _≤_, _≡_, refl, sym, ap, _∙_, List, [], append-nil, Bool, true, false, cond, getD, take}
+use Rattle.laws.proofs.Basics.{ℕ, _+_, _*_, _<_, _≤_, _≡_, refl, sym, ap, subst, _∙_, List, [], append-nil, Bool, cond, getD, take}
 use Rattle.laws.proofs.Basics.{List·getD-eq-default, getD-take, eqb, ltb, arith, eqb-true, eq-eqb, ne-eqb, ltb-true, ltb-false}
+use Rattle.laws.proofs.Cases.{by-cases, contradiction}
 use Rattle.language.specs.Symbols.{Symbol}
-use Rattle.language.specs.Reader.{Source, Out, ok, no, onOut, kindAt, valueAt, placeAt, is, unexpected, the}
+use Rattle.language.specs.Reader.{Source, Out, ok, no, onOut, kindAt, placeAt, is, unexpected, the}
 use Rattle.tree.specs.Reads.{HoldsSymbols, Here, KindHere, Follows, Encodes, Reads, Passes, nextOf}
 use Rattle.tree.proofs.Steps.{bind, here, nothing}
 use Rattle.tree.specs.declared.scratch.State.{State}
 use Rattle.tree.specs.declared.scratch.State.the-variants.{Read, Refused}
-
-pub clash : {r : State} {k p at free : ℕ} → r ≡ Refused k p → r ≡ Read at free → ⊥
-clash e e′ = let z : _≡_ {A = ℕ} 1 0 = cc in omega arith
 
 same-at : {r : State} {at free at′ free′ : ℕ} → r ≡ Read at free → r ≡ Read at′ free′ → at ≡ at′
 unfolding nextOf
@@ -21,34 +19,25 @@ past {src} l at h = ap (λ (x : Symbol). x .kind) (List·getD-eq-default (src .s
 
 module _ {src : Source} {n : ℕ} {s : List ℕ} (l : HoldsSymbols src n s) where
   -- a symbol of a kind other than 0 stands among the symbols
-  insideBy : (at : ℕ) (b : Bool) → ltb at n ≡ b → 0 < kindAt src at → at < n
-  insideBy at true e h = ltb-true at n e
-  insideBy at false e h = let z : kindAt src at ≡ 0 = past l at (ltb-false at n e) in absurd (omega arith)
-
   pub inside : (at : ℕ) → 0 < kindAt src at → at < n
-  inside at h = insideBy at (ltb at n) refl h
+  inside at h = by-cases (ltb at n) (ltb-true at n) (λ e. let z = past l at (ltb-false at n e) in absurd (omega arith))
 
-  module _ {r : State} {at free : ℕ} (e : r ≡ Read at free) where
-    pub kind-in : at < n → KindHere src r (getD s (at * 3) 0)
-    kind-in h = record { here = λ at′ free′ e′. l .kinds at h ∙ ap (kindAt src) (same-at e e′) }
-
-    pub kind-past : n ≤ at → KindHere src r 0
-    kind-past h = record { here = λ at′ free′ e′. sym (past l at′ (omega (arith, same-at e e′))) }
-
-    pub value-in : at < n → Here (valueAt src) n r (getD s (at * 3 + 1) 0)
-    value-in h = record { here = λ at′ free′ e′ _. l .values at h ∙ ap (valueAt src) (same-at e e′) }
-
-    pub place-in : at < n → Here (placeAt src) n r (getD s (at * 3 + 2) 0)
-    place-in h = record { here = λ at′ free′ e′ _. l .places at h ∙ ap (placeAt src) (same-at e e′) }
+  pub kind-past : {r : State} {at free : ℕ} → r ≡ Read at free → n ≤ at → KindHere src r 0
+  kind-past {r} {at} e h = record { here = λ at′ free′ e′. sym (past l at′ (omega (arith, same-at e e′))) }
 
   pub kind-refused : {r : State} {k p x : ℕ} → r ≡ Refused k p → KindHere src r x
-  kind-refused e = record { here = λ at free e′. absurd (clash e e′) }
+  kind-refused e = record { here = λ at free e′. contradiction cc }
+
+-- an entry of the symbol here, whichever it is: its kind, its value or its place
+pub entry-here :
+    (what : ℕ → ℕ) {r : State} {at free x : ℕ} → r ≡ Read at free → x ≡ what at → (at′ free′ : ℕ) → r ≡ Read at′ free′ → x ≡ what at′
+entry-here what e q at′ free′ e′ = q ∙ ap what (same-at e e′)
 
 pub here-past : {what : ℕ → ℕ} {n : ℕ} {r : State} {at free x : ℕ} → r ≡ Read at free → n ≤ at → Here what n r x
 here-past e h = record { here = λ at′ free′ e′ i. absurd (omega (arith, same-at e e′)) }
 
 pub here-refused : {what : ℕ → ℕ} {n : ℕ} {r : State} {k p x : ℕ} → r ≡ Refused k p → Here what n r x
-here-refused e = record { here = λ at free e′ i. absurd (clash e e′) }
+here-refused e = record { here = λ at free e′ i. contradiction cc }
 
 -- the symbols stay where they are
 kept-at : (n : ℕ) (s s′ : List ℕ) → take (n * 3) s′ ≡ take (n * 3) s → (i : ℕ) → i < n * 3 → getD s′ i 0 ≡ getD s i 0
@@ -99,30 +88,25 @@ expect-refused src kind e = record { by = rw e refl }
 -- the place of a symbol that is read is what stands here
 module _ {src : Source} {n : ℕ} {s : List ℕ} (l : HoldsSymbols src n s) {r : State} {p : ℕ} (h : Here (placeAt src) n r p) (kind : ℕ)
     (pos : 0 < kind) where
-  placedBy :
-      {C : Type 0} (F : ℕ → ℕ → Out C) (at free : ℕ) → r ≡ Read at free → (b : Bool) → eqb (kindAt src at) kind ≡ b
-      → onOut (the kind src at) F ≡ onOut (the kind src at) (λ _ m. F p m)
-  placedBy {C} F at free e true q =
-      let k = eqb-true (kindAt src at) kind q in
-      let t = the-is src kind at k in
-      let y : p ≡ placeAt src at = h .here at free e (inside l at (omega arith)) in
-      ap (λ (o : Out ℕ). onOut o F) t ∙ ap (λ (x : ℕ). F x (at + 1)) (sym y) ∙ sym (ap (λ (o : Out ℕ). onOut o (λ _ m. F p m)) t)
-  placedBy {C} F at free e false q =
-      let t = the-not src kind at (λ x. let z : true ≡ false = sym (eq-eqb (kindAt src at) kind x) ∙ q in absurd (true-false z)) in
-      ap (λ (o : Out ℕ). onOut o F) t ∙ sym (ap (λ (o : Out ℕ). onOut o (λ _ m. F p m)) t)
-    where
-      true-false : true ≡ false → ⊥
-      true-false z = let y : _≡_ {A = ℕ} 1 0 = ap (λ (b : Bool). cond b 1 0) z in omega arith
-
   pub placed : {C : Type 0} (F : ℕ → ℕ → Out C) (at free : ℕ) → r ≡ Read at free → onOut (the kind src at) F ≡ onOut (the kind src at) (λ _ m. F p m)
-  placed F at free e = placedBy F at free e (eqb (kindAt src at) kind) refl
+  placed F at free e =
+      by-cases (eqb (kindAt src at) kind) (λ q. let k = eqb-true (kindAt src at) kind q in
+      let y = h .here at free e (inside l at (omega arith)) in
+      rw (the-is src kind at k) (ap (λ (x : ℕ). F x (at + 1)) (sym y)))
+      (λ q. rw (the-not src kind at (λ x. let y = eq-eqb (kindAt src at) kind x in contradiction cc)) refl)
 
 pub stays : {r : State} → Passes r r
 stays {r = Read at free} = record { by = tt }
 stays {r = Refused k p} = record { by = refl }
 
+-- the last part, and the tree that is made of it
+pub ends :
+    {A C : Type 0} {read : ℕ → Out A} (F : A → C) {enc : A → List ℕ} {Says : C → List ℕ → Type 0} {s s′ : List ℕ} {r r′ : State}
+    → Reads read enc s s′ r r′ → ((a : A) → Says (F a) (enc a)) → Follows (λ m. onOut (read m) (λ a q. ok (F a) q)) Says s s′ r r′
+ends F {enc} {Says} d h = bind 0 enc d stays (λ a _. nothing (subst (Says (F a)) (sym (append-nil (enc a))) (h a)))
+
 -- a tree in another form
 pub mapped :
     {A C : Type 0} {read : ℕ → Out A} (F : A → C) {enc : A → List ℕ} {enc′ : C → List ℕ} {s s′ : List ℕ} {r r′ : State}
     → ((a : A) → enc′ (F a) ≡ enc a) → Reads read enc s s′ r r′ → Follows (λ m. onOut (read m) (λ a q. ok (F a) q)) (Encodes enc′) s s′ r r′
-mapped F {enc} {enc′} h d = bind 0 enc d stays (λ a q. nothing (record { same = append-nil (enc a) ∙ sym (h a) }))
+mapped F h d = ends F d (λ a. record { same = sym (h a) })

@@ -3,64 +3,26 @@ use Rattle.tree.proofs.Decoded.{lies, starts, tree-short, tree-read, tr
 use Rattle.tree.proofs.read_tree.Statement.{statement}
 use Rattle.tree.proofs.read_tree.Tie as tie
 
-returns : tie.Need-returns
-returns c = tree-short _ _ _ (sym (c .before .too-short .ensures) ∙ c .if1 .taken)
-
-mul-start : tie.Need-mul-start
-mul-start c =
-    (let h = starts (c .before .before .before .before .args .scratch .now) (c .before .before .before .before .args .count)
-    (sym (c .before .too-short .ensures) ∙ c .if1 .left) in omega (arith, h .wide, h .small))
-
-program-requires : tie.Need-program-requires
-program-requires c κs = starts _ _ (sym (c .before .before .too-short .ensures) ∙ c .before .if1 .left)
-
-clear-from-requires : tie.Need-clear-from-requires
-clear-from-requires c κs =
-    omega (
-      arith,
-      end-inside
-          (sym (c .before .before .before .before .before .before .before .before .before .too-short .ensures) ∙
-          c .before .before .before .before .before .before .before .before .if1 .left)
-          (c .before .before .before .before .before .before .program .ensures .0) (c .before .before .free .given .1),
-    )
-
-place-at-requires : tie.Need-place-at-requires
-place-at-requires c κs =
-    (let h = starts (c .before .before .before .before .before .before .before .before .before .before .before .before .args .scratch .now)
-    (c .before .before .before .before .before .before .before .before .before .before .before .before .args .count)
-    (sym (c .before .before .before .before .before .before .before .before .before .too-short .ensures) ∙
-    c .before .before .before .before .before .before .before .before .if1 .left) in omega
-    (arith, h .wide, c .before .before .before .before .before .before .program .kept .0))
-
-clear-from-requires-2 : tie.Need-clear-from-requires-2
-clear-from-requires-2 c κs =
-    (let h = starts
-    (c .before .before .before .before .before .before .before .before .before .before .before .before .before .before .args .scratch .now)
-    (c .before .before .before .before .before .before .before .before .before .before .before .before .before .before .args .count)
-    (sym (c .before .before .before .before .before .before .before .before .before .before .before .too-short .ensures) ∙
-    c .before .before .before .before .before .before .before .before .before .before .if1 .left) in omega
-    (arith, h .wide, c .before .before .before .before .before .before .before .before .program .kept .0))
-
-returns-2 : tie.Need-returns-2
-returns-2 c =
-    tree-read (sym (search needs) ∙ c .before .before .before .before .before .before .before .before .before .before .before .if1 .left)
-    (c .before .before .before .before .before .before .before .before .before .program .kept .0)
-    (c .before .before .before .before .before .before .before .before .before .program .ensures .1 _ (lies _ _ _))
-    (c .before .before .before .before .before .before .before .before .before .program .ensures .0)
-    (c .before .before .before .before .before .free .given .1) (c .before .before .clear-from .ensures)
-
-returns-3 : tie.Need-returns-3
-returns-3 c =
-    tree-refused
-    (sym (search needs) ∙ c .before .before .before .before .before .before .before .before .before .before .before .before .before .if1 .left)
-    (c .before .before .before .before .before .before .before .before .before .before .before .program .kept .0)
-    (c .before .before .before .before .before .before .before .before .before .before .before .program .ensures .1 _ (lies _ _ _))
-    (c .before .before .before .before .before .before .before .number .given .1)
-    (c .before .before .before .before .before .before .before .before .before .before .before .program .ensures .0 .kept)
-    (c .before .before .before .before .place-at .ensures) (c .before .before .clear-from2 .ensures)
-
 pub read-tree-spec : {M : Type 1} → statement M
 read-tree-spec =
-    tie.close
-    (tie.spec (search needs) (search needs) returns mul-start program-requires (search needs) clear-from-requires
-    (search needs) place-at-requires clear-from-requires-2 (search needs) returns-2 (search needs) returns-3)
+    tie.close (tie.spec (search needs) (search needs) (λ c. tree-short _ _ _ (sym (c .before .too-short .ensures) ∙ c .if1 .taken))
+    (λ c. let too-short = c .before in let start = too-short .before .before .before in let h = starts (start .args .scratch .now)
+    (start .args .count) (sym (too-short .too-short .ensures) ∙ c .if1 .left) in omega (arith, h .wide, h .small))
+    (λ c κs. starts _ _ (sym (c .before .before .too-short .ensures) ∙ c .before .if1 .left)) (search needs)
+    (λ c κs. let free = c .before .before in let program = free .before .before .before .before in let if1 = program .before .before in
+    let too-short = if1 .before in let inside = end-inside (sym (too-short .too-short .ensures) ∙ if1 .if1 .left) (program .program .ensures .0)
+    (free .free .given .1) in omega arith) (search needs)
+    (λ c κs. let program = c .before .before .before .before .before .before in let if1 = program .before .before in let too-short = if1 .before in
+    let start = too-short .before .before .before in let h = starts (start .args .scratch .now) (start .args .count) (sym
+    (too-short .too-short .ensures) ∙ if1 .if1 .left) in omega (arith, h .wide, program .program .kept .0))
+    (λ c κs. let program = c .before .before .before .before .before .before .before .before in let if1 = program .before .before in
+    let too-short = if1 .before in let start = too-short .before .before .before in let h = starts (start .args .scratch .now) (start .args .count)
+    (sym (too-short .too-short .ensures) ∙ if1 .if1 .left) in omega (arith, h .wide, program .program .kept .0)) (search needs)
+    (λ c. let clear-from = c .before .before in let free = clear-from .before .before .before in let program = free .before .before .before .before in
+    let if1 = program .before .before in let too-short = if1 .before in tree-read (sym (too-short .too-short .ensures) ∙ if1 .if1 .left)
+    (program .program .kept .0) (program .program .ensures .1 _ (lies _ _ _)) (program .program .ensures .0) (free .free .given .1)
+    (clear-from .clear-from .ensures)) (search needs)
+    (λ c. let clear-from2 = c .before .before in let place-at = clear-from2 .before .before in let number = place-at .before .before .before in
+    let program = number .before .before .before .before in let if1 = program .before .before in let too-short = if1 .before in tree-refused (sym
+    (too-short .too-short .ensures) ∙ if1 .if1 .left) (program .program .kept .0) (program .program .ensures .1 _ (lies _ _ _))
+    (number .number .given .1) (program .program .ensures .0 .kept) (place-at .place-at .ensures) (clear-from2 .clear-from2 .ensures)))

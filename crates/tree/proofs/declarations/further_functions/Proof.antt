@@ -19,26 +19,14 @@ Inv-loop s₀ n turns₀ a₀ s turns a =
 abbrev μ-loop : tie.MeasureT-loop
 μ-loop s₀ n turns₀ a₀ s turns a = turns
 
-kind-here-requires : tie.Need-kind-here-requires Inv-loop μ-loop
-kind-here-requires c κs =
-    let in-loop = c .before .before in let start = in-loop .before .before in
-    ready-leaves (in-loop .loop .inv .room) (in-loop .loop .inv .same) refl (start .pre)
-
-expect-requires : tie.Need-expect-requires Inv-loop μ-loop
-expect-requires c κs = (kind-here-requires (c .before .before .before) κs, omega arith)
-
-loop-again : tie.Need-loop-again Inv-loop μ-loop
-loop-again c =
-    let after-function = c .before .before in let after-expect = after-function .before .before in let after-if1 = after-expect .before .before in
-    let after-kind-here = after-if1 .before in let in-loop = after-kind-here .before .before .before in
-    many-turns _ _ _ _ before-next (in-loop .loop .inv) (after-kind-here .kind-here .ensures) (eq-eqb _ _ (after-if1 .if1 .left))
-    (at-any (and-function-reads (after-expect .expect .ensures) (after-function .function .ensures))) (after-function .function .kept .0)
-    (omega arith)
-
 pub further-functions-spec : {M : Type 1} → statement M
 further-functions-spec =
-    tie.close (tie.spec Inv-loop μ-loop (λ c. so-begins (c .before .pre) before-first) kind-here-requires (search needs)
+    tie.close (tie.spec Inv-loop μ-loop (λ c. so-begins (c .before .pre) before-first) (search needs) (search needs)
     (λ c. many-ends _ _ _ _ before-last (wordless no-function-words) refl (c .before .before .before .before .loop .inv)
-    (c .before .kind-here .ensures) (ne-eqb _ _ (c .if1 .taken))) expect-requires
-    (λ c κs. ready-leaves (c .before .expect .ensures .0) refl refl (expect-requires (c .before .before) κs .0)) (search needs) (λ c. omega arith)
-    loop-again (search needs) (λ c. many-spent _ _ _ _ before-last (wordless no-function-words) refl (c .before .loop .inv) (omega arith)))
+    (c .before .kind-here .ensures) (ne-eqb _ _ (c .if1 .taken))) (search needs)
+    (λ c κs. ready-leaves (c .before .expect .ensures .0) refl refl (search needs)) (search needs) (λ c. omega arith)
+    (λ c. let function = c .before .before in let expect = function .before .before in let if1 = expect .before .before in
+    let kind-here = if1 .before in let in-loop = kind-here .before .before .before in many-turns _ _ _ _ before-next (in-loop .loop .inv)
+    (kind-here .kind-here .ensures) (eq-eqb _ _ (if1 .if1 .left)) (at-any (and-function-reads (expect .expect .ensures)
+    (function .function .ensures))) (function .function .kept .0) (omega arith)) (search needs)
+    (λ c. many-spent _ _ _ _ before-last (wordless no-function-words) refl (c .before .loop .inv) (omega arith)))

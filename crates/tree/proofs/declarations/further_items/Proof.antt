@@ -16,54 +16,21 @@ Inv-loop s₀ n sign turns₀ a₀ s turns a = SoFar (Before encodeItems) (moreU
 abbrev μ-loop : tie.MeasureT-loop
 μ-loop s₀ n sign turns₀ a₀ s turns a = turns
 
-kind-here-requires : tie.Need-kind-here-requires Inv-loop μ-loop
-kind-here-requires c κs =
-    let in-loop = c .before .before in let start = in-loop .before .before in
-    ready-leaves (in-loop .loop .inv .room) (in-loop .loop .inv .same) refl (start .pre .0)
-
-returns : tie.Need-returns Inv-loop μ-loop
-returns c =
-    let after-if1 = c .before .before in let after-kind-here = after-if1 .before in let in-loop = after-kind-here .before .before .before in
-    list-ends _ _ _ (in-loop .loop .inv) (after-kind-here .kind-here .ensures) no-item-words (after-if1 .if1 .taken) (c .expect .ensures)
-    (omega arith)
-
-expect-requires-2 : tie.Need-expect-requires-2 Inv-loop μ-loop
-expect-requires-2 c κs = (kind-here-requires (c .before .before .before) κs, omega arith)
-
-kind-here-requires-2 : tie.Need-kind-here-requires-2 Inv-loop μ-loop
-kind-here-requires-2 c κs = ready-leaves (c .before .expect2 .ensures .0) refl refl (expect-requires-2 (c .before .before) κs .0)
-
-returns-2 : tie.Need-returns-2 Inv-loop μ-loop
-returns-2 c =
-    let after-if2 = c .before .before in let after-kind-here2 = after-if2 .before in let after-expect2 = after-kind-here2 .before .before in
-    let after-if1 = after-expect2 .before .before in let after-kind-here = after-if1 .before in
-    let in-loop = after-kind-here .before .before .before in
-    list-semicolon-ends _ _ _ (in-loop .loop .inv) (after-kind-here .kind-here .ensures) no-item-words (after-if1 .if1 .left)
-    (after-expect2 .expect2 .ensures) (after-kind-here2 .kind-here2 .ensures) (after-if2 .if2 .taken) (c .expect3 .ensures) (omega arith)
-
-one-item-requires : tie.Need-one-item-requires Inv-loop μ-loop
-one-item-requires c κs =
-    pair (ready-leaves (c .before .before .before .before .expect2 .ensures .0) refl refl
-    (expect-requires-2 (c .before .before .before .before .before) κs .0)) (omega arith)
-
-loop-again : tie.Need-loop-again Inv-loop μ-loop
-loop-again c =
-    let after-one-item = c .before .before in let after-if2 = after-one-item .before .before in let after-kind-here2 = after-if2 .before in
-    let after-expect2 = after-kind-here2 .before .before in let after-if1 = after-expect2 .before .before in
-    let after-kind-here = after-if1 .before in let in-loop = after-kind-here .before .before .before in
-    list-goes-on _ _ _ (in-loop .loop .inv) (after-kind-here .kind-here .ensures) (after-if1 .if1 .left) (after-expect2 .expect2 .ensures)
-    (after-kind-here2 .kind-here2 .ensures) (after-if2 .if2 .left) (takes-none (after-one-item .one-item .ensures .0))
-    (after-one-item .one-item .kept .0) (after-one-item .one-item .ensures .1) (omega arith)
-
-refuse-requires : tie.Need-refuse-requires Inv-loop μ-loop
-refuse-requires c κs =
-    let in-loop = c .before .before in let start = in-loop .before .before in
-    ready-leaves (in-loop .loop .inv .room) (in-loop .loop .inv .same) refl (start .pre .0)
-
 pub further-items-spec : {M : Type 1} → statement M
 further-items-spec =
-    tie.close (tie.spec Inv-loop μ-loop (λ c. so-begins (c .before .pre .0) before-first) kind-here-requires
-    (λ c κs. (kind-here-requires (c .before .before .before) κs, omega arith)) (search needs) returns expect-requires-2 kind-here-requires-2
-    (λ c κs. (kind-here-requires-2 (c .before .before .before) κs, omega arith)) (search needs) returns-2 one-item-requires (search needs)
-    (λ c. omega arith) loop-again refuse-requires (search needs)
+    tie.close (tie.spec Inv-loop μ-loop (λ c. so-begins (c .before .pre .0) before-first) (search needs) (search needs) (search needs)
+    (λ c. let if1 = c .before .before in let kind-here = if1 .before in let in-loop = kind-here .before .before .before in list-ends _ _ _
+    (in-loop .loop .inv) (kind-here .kind-here .ensures) no-item-words (if1 .if1 .taken) (c .expect .ensures) (omega arith)) (search needs)
+    (search needs) (search needs) (search needs)
+    (λ c. let if2 = c .before .before in let kind-here2 = if2 .before in let expect2 = kind-here2 .before .before in
+    let if1 = expect2 .before .before in let kind-here = if1 .before in let in-loop = kind-here .before .before .before in list-semicolon-ends _ _ _
+    (in-loop .loop .inv) (kind-here .kind-here .ensures) no-item-words (if1 .if1 .left) (expect2 .expect2 .ensures) (kind-here2 .kind-here2 .ensures)
+    (if2 .if2 .taken) (c .expect3 .ensures) (omega arith))
+    (λ c κs. pair (ready-leaves (c .before .before .before .before .expect2 .ensures .0) refl refl (search needs)) (omega arith)) (search needs)
+    (λ c. omega arith)
+    (λ c. let one-item = c .before .before in let if2 = one-item .before .before in let kind-here2 = if2 .before in
+    let expect2 = kind-here2 .before .before in let if1 = expect2 .before .before in let kind-here = if1 .before in
+    let in-loop = kind-here .before .before .before in list-goes-on _ _ _ (in-loop .loop .inv) (kind-here .kind-here .ensures) (if1 .if1 .left)
+    (expect2 .expect2 .ensures) (kind-here2 .kind-here2 .ensures) (if2 .if2 .left) (takes-none (one-item .one-item .ensures .0))
+    (one-item .one-item .kept .0) (one-item .one-item .ensures .1) (omega arith)) (search needs) (search needs)
     (λ c. list-spents _ _ _ (c .before .before .before .loop .inv) (c .refuse .ensures) (omega arith)))

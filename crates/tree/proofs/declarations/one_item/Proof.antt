@@ -1,11 +1,11 @@
 use Rattle.laws.proofs.Basics.{refl, arith, needs}
 use Rattle.tree.proofs.Helpers.{low}
-use Rattle.tree.proofs.Symbols.{lies-still}
 use Rattle.tree.proofs.Programs.{item-here}
-use Rattle.tree.proofs.Rooms.{ready-leaves, ready-takes, ready-part, item-low, taken, room-left, _plus_}
+use Rattle.tree.proofs.Rooms.{ready-leaves, ready-takes, ready-part, item-low}
 use Rattle.tree.proofs.Steps.{pair}
 use Rattle.tree.proofs.declarations.one_item.Statement.{statement}
 use Rattle.tree.proofs.declarations.one_item.Tie as tie
+use Rattle.tree.proofs.Wholes.{leaves, _writing_, _with_, _setting_}
 
 a-name-requires : tie.Need-a-name-requires
 a-name-requires c κs =
@@ -28,20 +28,11 @@ set-size-requires c κs =
     pair (ready-leaves (after-constant .constant .ensures .0) (after-constant .constant .kept .0) refl
     (constant-requires (after-constant .before) κs)) (item-low (after-free-of .free-of .ensures) (ready-part (start .pre .0) refl))
 
-returns : tie.Need-returns
-returns c =
-    let after-set-size = c .before .before in let after-constant = after-set-size .before .before .before .before in
-    let after-expect = after-constant .before .before in let after-a-name = after-expect .before .before .before .before in
-    let after-begin-item = after-a-name .before .before .before .before in let after-free-of = after-begin-item .before .before in
-    let start = after-free-of .before .before .before in
-    pair (room-left (taken (after-begin-item .begin-item .ensures .0) plus (after-a-name .a-name .ensures .0) plus (after-expect .expect .ensures .0)
-    plus (after-constant .constant .ensures .0) plus (after-set-size .set-size .ensures .0)) refl)
-    (λ src l. (let l₁ = lies-still l (after-begin-item .begin-item .ensures .0 .kept) in
-    let l₂ = lies-still l₁ (after-a-name .a-name .ensures .0 .kept) in
-    item-here src _ _ (after-free-of .free-of .ensures) (low (start .pre .0)) (after-begin-item .begin-item .ensures .1)
-    (after-a-name .a-name .ensures .1 src l₁) (after-expect .expect .ensures .1 src l₂) (after-constant .constant .ensures .1 src l₂)
-    (after-set-size .set-size .ensures .1)))
-
 pub one-item-spec : {M : Type 1} → statement M
 one-item-spec =
-    tie.close (tie.spec (search needs) (search needs) a-name-requires expect-requires constant-requires set-size-requires (search needs) returns)
+    tie.close (tie.spec (search needs) (search needs) a-name-requires expect-requires constant-requires set-size-requires (search needs)
+    (λ c. let set-size = c .before .before in let constant = set-size .before .before .before .before in let expect = constant .before .before in
+    let a-name = expect .before .before .before .before in let begin-item = a-name .before .before .before .before in
+    let free-of = begin-item .before .before in let start = free-of .before .before .before in leaves ((λ src l. item-here src _ _
+    (free-of .free-of .ensures) (low (start .pre .0))) writing begin-item .begin-item .ensures with a-name .a-name .ensures with
+    expect .expect .ensures with constant .constant .ensures setting set-size .set-size .ensures) refl))

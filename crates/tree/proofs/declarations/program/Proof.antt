@@ -6,21 +6,13 @@ use Rattle.tree.proofs.Rooms.{left, room-left, _plus_}
 use Rattle.tree.proofs.declarations.program.Statement.{statement}
 use Rattle.tree.proofs.declarations.program.Tie as tie
 
-returns : tie.Need-returns
-returns c =
-    let after-kind-here = c .before in let after-declarations = after-kind-here .before .before .before .before in
-    pair (after-declarations .declarations .ensures .0)
-    (λ src l. program-read src (l .count) (after-kind-here .kind-here .ensures src
-    (lies-still l (after-declarations .declarations .ensures .0 .kept))) (after-declarations .declarations .ensures .1 src l) (c .if1 .taken))
-
-returns-2 : tie.Need-returns-2
-returns-2 c =
-    let after-if1 = c .before .before in let after-kind-here = after-if1 .before in
-    let after-declarations = after-kind-here .before .before .before .before in
-    pair (room-left (left (after-declarations .declarations .ensures .0) plus (c .refuse .ensures .0)) refl)
-    (λ src l. program-refused src (l .count) (after-kind-here .kind-here .ensures src
-    (lies-still l (after-declarations .declarations .ensures .0 .kept))) (after-declarations .declarations .ensures .1 src l) (after-if1 .if1 .left)
-    (c .refuse .ensures .1))
-
 pub program-spec : {M : Type 1} → statement M
-program-spec = tie.close (tie.spec (search needs) (search needs) (search needs) returns (search needs) (search needs) returns-2)
+program-spec =
+    tie.close (tie.spec (search needs) (search needs) (search needs)
+    (λ c. let kind-here = c .before in let declarations = kind-here .before .before .before .before in pair (declarations .declarations .ensures .0)
+    (λ src l. program-read src (l .count) (kind-here .kind-here .ensures src (lies-still l (declarations .declarations .ensures .0 .kept)))
+    (declarations .declarations .ensures .1 src l) (c .if1 .taken))) (search needs) (search needs)
+    (λ c. let if1 = c .before .before in let kind-here = if1 .before in let declarations = kind-here .before .before .before .before in pair
+    (room-left (left (declarations .declarations .ensures .0) plus (c .refuse .ensures .0)) refl) (λ src l. program-refused src (l .count)
+    (kind-here .kind-here .ensures src (lies-still l (declarations .declarations .ensures .0 .kept))) (declarations .declarations .ensures .1 src l)
+    (if1 .if1 .left) (c .refuse .ensures .1))))

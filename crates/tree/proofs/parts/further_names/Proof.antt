@@ -4,7 +4,6 @@ use Rattle.tree.specs.Between.{aFurtherName}
 use Rattle.tree.specs.Encoding.{encodeNames}
 use Rattle.tree.proofs.Names.{no-name-words, further-name-reads}
 use Rattle.tree.proofs.Loops.{SoFar, before-first, before-next, before-last, wordless, so-begins, many-turns, many-ends, many-spent}
-use Rattle.tree.proofs.Rooms.{ready-leaves}
 use Rattle.tree.proofs.Lists.{Before}
 use Rattle.tree.proofs.Choices.{at-any}
 use Rattle.tree.proofs.parts.further_names.Statement.{statement}
@@ -17,25 +16,12 @@ Inv-loop s₀ n turns₀ a₀ s turns a =
 abbrev μ-loop : tie.MeasureT-loop
 μ-loop s₀ n turns₀ a₀ s turns a = turns
 
-kind-here-requires : tie.Need-kind-here-requires Inv-loop μ-loop
-kind-here-requires c κs =
-    let in-loop = c .before .before in let start = in-loop .before .before in
-    ready-leaves (in-loop .loop .inv .room) (in-loop .loop .inv .same) refl (start .pre)
-
-expect-requires : tie.Need-expect-requires Inv-loop μ-loop
-expect-requires c κs = (kind-here-requires (c .before .before .before) κs, omega arith)
-
-loop-again : tie.Need-loop-again Inv-loop μ-loop
-loop-again c =
-    let after-a-name = c .before .before in let after-expect = after-a-name .before .before in let after-if1 = after-expect .before .before in
-    let after-kind-here = after-if1 .before in let in-loop = after-kind-here .before .before .before in
-    many-turns _ _ _ _ before-next (in-loop .loop .inv) (after-kind-here .kind-here .ensures) (eq-eqb _ _ (after-if1 .if1 .left))
-    (at-any (further-name-reads (after-expect .expect .ensures) (after-a-name .a-name .ensures))) (after-a-name .a-name .kept .0) (omega arith)
-
 pub further-names-spec : {M : Type 1} → statement M
 further-names-spec =
-    tie.close (tie.spec Inv-loop μ-loop (λ c. so-begins (c .before .pre) before-first) kind-here-requires (search needs)
+    tie.close (tie.spec Inv-loop μ-loop (λ c. so-begins (c .before .pre) before-first) (search needs) (search needs)
     (λ c. many-ends _ _ _ _ before-last (wordless no-name-words) refl (c .before .before .before .before .loop .inv) (c .before .kind-here .ensures)
-    (ne-eqb _ _ (c .if1 .taken))) expect-requires
-    (λ c κs. ready-leaves (c .before .expect .ensures .0) refl refl (expect-requires (c .before .before) κs .0)) (search needs) (λ c. omega arith)
-    loop-again (search needs) (λ c. many-spent _ _ _ _ before-last (wordless no-name-words) refl (c .before .loop .inv) (omega arith)))
+    (ne-eqb _ _ (c .if1 .taken))) (search needs) (search needs) (search needs) (λ c. omega arith)
+    (λ c. let a-name = c .before .before in let expect = a-name .before .before in let if1 = expect .before .before in let kind-here = if1 .before in
+    let in-loop = kind-here .before .before .before in many-turns _ _ _ _ before-next (in-loop .loop .inv) (kind-here .kind-here .ensures) (eq-eqb _ _
+    (if1 .if1 .left)) (at-any (further-name-reads (expect .expect .ensures) (a-name .a-name .ensures))) (a-name .a-name .kept .0) (omega arith))
+    (search needs) (λ c. many-spent _ _ _ _ before-last (wordless no-name-words) refl (c .before .loop .inv) (omega arith)))

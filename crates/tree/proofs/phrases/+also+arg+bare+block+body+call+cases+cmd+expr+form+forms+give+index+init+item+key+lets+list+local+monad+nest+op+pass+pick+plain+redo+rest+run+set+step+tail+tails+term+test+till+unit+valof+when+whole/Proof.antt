@@ -10,10 +10,14 @@ use Ranks.{also-rank, arg-rank, bare-rank, block-rank, body-rank, call-rank, cas
 use Ranks.{index-rank, init-rank, item-rank, key-rank, lets-rank, list-rank, local-rank, monad-rank, nest-rank, op-rank, pass-rank, pick-rank}
 use Ranks.{plain-rank, redo-rank, rest-rank, run-rank, set-rank, step-rank, tail-rank, tails-rank, term-rank, test-rank, till-rank, unit-rank}
 use Ranks.{valof-rank, when-rank, whole-rank}
-use Chains.{expr-ok, monad-ok, op-ok, run-ok, term-ok}
-use Terms.{also-ok, arg-ok, call-ok, index-ok, key-ok, nest-ok, pass-ok, rest-ok, tail-ok, tails-ok, unit-ok, valof-ok, whole-ok}
-use Forms.{bare-ok, body-ok, cases-ok, cmd-ok, form-ok, forms-ok, give-ok, plain-ok, redo-ok, set-ok, test-ok, when-ok}
-use Blocks.{block-ok, init-ok, item-ok, lets-ok, list-ok, local-ok, pick-ok, step-ok, till-ok}
+use Chains.{expr-cs, expr-ok, monad-cs, monad-ok, op-cs, op-ok, run-cs, run-ok, term-cs, term-ok}
+use Terms.{also-cs, also-ok, arg-cs, arg-ok, call-cs, call-ok, index-cs, index-ok, key-cs, key-ok, nest-cs, nest-ok, pass-cs, pass-ok, rest-cs}
+use Terms.{rest-ok, tail-cs, tail-ok, tails-cs, tails-ok, unit-cs, unit-ok, valof-cs, valof-ok, whole-cs, whole-ok}
+use Forms.{bare-cs, bare-ok, body-cs, body-ok, cases-cs, cases-ok, cmd-cs, cmd-ok, form-cs, form-ok, forms-cs, forms-ok, give-cs, give-ok, plain-cs}
+use Forms.{plain-ok, redo-cs, redo-ok, set-cs, set-ok, test-cs, test-ok, when-cs, when-ok}
+use Blocks.{block-cs, block-ok, init-cs, init-ok, item-cs, item-ok, lets-cs, lets-ok, list-cs, list-ok, local-cs, local-ok, pick-cs, pick-ok, step-cs}
+use Blocks.{step-ok, till-cs, till-ok}
+use Rattle.tree.proofs.Asked.{knowing}
 
 pub +also+arg+bare+block+body+call+cases+cmd+expr+form+forms+give+index+init+item+key+lets+list+local+monad+nest+op+pass+pick+plain+redo+rest+run+set+step+tail+tails+term+test+till+unit+valof+when+whole-spec :
     {M : Type 1} → statement M
@@ -26,6 +30,22 @@ pub +also+arg+bare+block+body+call+cases+cmd+expr+form+forms+give+index+init+ite
     (plain-rank .measure) (redo-rank .measure) (rest-rank .measure) (run-rank .measure) (set-rank .measure) (step-rank .measure) (tail-rank .measure)
     (tails-rank .measure) (term-rank .measure) (test-rank .measure) (till-rank .measure) (unit-rank .measure) (valof-rank .measure)
     (when-rank .measure) (whole-rank .measure)
-    also-ok arg-ok bare-ok block-ok body-ok call-ok cases-ok cmd-ok expr-ok form-ok forms-ok give-ok index-ok init-ok item-ok key-ok lets-ok list-ok
-    local-ok monad-ok nest-ok op-ok pass-ok pick-ok plain-ok redo-ok rest-ok run-ok set-ok step-ok tail-ok tails-ok term-ok test-ok till-ok unit-ok
-    valof-ok when-ok whole-ok
+    (λ t. knowing (also-cs t .callees) _ (also-ok t)) (λ t. knowing (arg-cs t .callees) _ (arg-ok t))
+    (λ t. knowing (bare-cs t .callees) _ (bare-ok t)) (λ t. knowing (block-cs t .callees) _ (block-ok t))
+    (λ t. knowing (body-cs t .callees) _ (body-ok t)) (λ t. knowing (call-cs t .callees) _ (call-ok t))
+    (λ t. knowing (cases-cs t .callees) _ (cases-ok t)) (λ t. knowing (cmd-cs t .callees) _ (cmd-ok t))
+    (λ t. knowing (expr-cs t .callees) _ (expr-ok t)) (λ t. knowing (form-cs t .callees) _ (form-ok t))
+    (λ t. knowing (forms-cs t .callees) _ (forms-ok t)) (λ t. knowing (give-cs t .callees) _ (give-ok t))
+    (λ t. knowing (index-cs t .callees) _ (index-ok t)) (λ t. knowing (init-cs t .callees) _ (init-ok t))
+    (λ t. knowing (item-cs t .callees) _ (item-ok t)) (λ t. knowing (key-cs t .callees) _ (key-ok t))
+    (λ t. knowing (lets-cs t .callees) _ (lets-ok t)) (λ t. knowing (list-cs t .callees) _ (list-ok t))
+    (λ t. knowing (local-cs t .callees) _ (local-ok t)) (λ t. knowing (monad-cs t .callees) _ (monad-ok t))
+    (λ t. knowing (nest-cs t .callees) _ (nest-ok t)) (λ t. knowing (op-cs t .callees) _ (op-ok t)) (λ t. knowing (pass-cs t .callees) _ (pass-ok t))
+    (λ t. knowing (pick-cs t .callees) _ (pick-ok t)) (λ t. knowing (plain-cs t .callees) _ (plain-ok t))
+    (λ t. knowing (redo-cs t .callees) _ (redo-ok t)) (λ t. knowing (rest-cs t .callees) _ (rest-ok t))
+    (λ t. knowing (run-cs t .callees) _ (run-ok t)) (λ t. knowing (set-cs t .callees) _ (set-ok t)) (λ t. knowing (step-cs t .callees) _ (step-ok t))
+    (λ t. knowing (tail-cs t .callees) _ (tail-ok t)) (λ t. knowing (tails-cs t .callees) _ (tails-ok t))
+    (λ t. knowing (term-cs t .callees) _ (term-ok t)) (λ t. knowing (test-cs t .callees) _ (test-ok t))
+    (λ t. knowing (till-cs t .callees) _ (till-ok t)) (λ t. knowing (unit-cs t .callees) _ (unit-ok t))
+    (λ t. knowing (valof-cs t .callees) _ (valof-ok t)) (λ t. knowing (when-cs t .callees) _ (when-ok t))
+    (λ t. knowing (whole-cs t .callees) _ (whole-ok t))
