@@ -1,9 +1,8 @@
 use Rattle.laws.proofs.Basics.{sym, _∙_, arith, needs}
 use Rattle.tree.proofs.Decoded.{lies, starts, tree-short, tree-read, tree-refused, end-inside}
-use Rattle.tree.proofs.read_tree.Statement.{statement}
 use Rattle.tree.proofs.read_tree.Tie as tie
 
-pub read-tree-spec : {M : Type 1} → statement M
+pub read-tree-spec : {M : Type 1} → Rattle.tree.proofs.read_tree.Statement.statement M
 read-tree-spec =
     tie.close (tie.spec (search needs) (search needs) (λ c. tree-short _ _ _ (sym (c .before .too-short .ensures) ∙ c .if1 .taken))
     (λ c. let too-short = c .before in let start = too-short .before .before .before in let h = starts (start .args .scratch .now)

@@ -1,10 +1,9 @@
 use Rattle.laws.proofs.Basics.{_∙_}
 use Rattle.language.specs.Kinds.{member}
 use Rattle.tree.proofs.Classes.{arm, command, command-else}
-use Rattle.tree.proofs.binding.begins_command.Statement.{statement}
 use Rattle.tree.proofs.binding.begins_command.Tie as tie
 
-pub begins-command-spec : {M : Type 1} → statement M
+pub begins-command-spec : {M : Type 1} → Rattle.tree.proofs.binding.begins_command.Statement.statement M
 unfolding member
 begins-command-spec =
     tie.close

@@ -1,9 +1,8 @@
 use Rattle.language.specs.Kinds.{member}
 use Rattle.tree.proofs.Classes.{arm, none-of, expression}
-use Rattle.tree.proofs.binding.begins_expression.Statement.{statement}
 use Rattle.tree.proofs.binding.begins_expression.Tie as tie
 
-pub begins-expression-spec : {M : Type 1} → statement M
+pub begins-expression-spec : {M : Type 1} → Rattle.tree.proofs.binding.begins_expression.Statement.statement M
 unfolding member
 begins-expression-spec =
     tie.close (tie.spec (λ c κs. tt) (λ c. arm expression _ (c .before .letter-of .ensures) (c .match .keys1))

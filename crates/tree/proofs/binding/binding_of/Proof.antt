@@ -1,8 +1,7 @@
 use Rattle.tree.proofs.Classes.{binding-arm, no-binding}
-use Rattle.tree.proofs.binding.binding_of.Statement.{statement}
 use Rattle.tree.proofs.binding.binding_of.Tie as tie
 
-pub binding-of-spec : {M : Type 1} → statement M
+pub binding-of-spec : {M : Type 1} → Rattle.tree.proofs.binding.binding_of.Statement.statement M
 binding-of-spec =
     tie.close (tie.spec (λ c κs. tt) (λ c. binding-arm _ (c .before .letter-of .ensures) (c .match .keys1))
     (λ c. binding-arm _ (c .before .letter-of .ensures) (c .match .keys2))

@@ -3,7 +3,6 @@ use Rattle.tree.proofs.Programs.{declaration-globals, declaration-manif
 use Rattle.laws.proofs.Basics.{refl, needs}
 use Rattle.tree.proofs.Rooms.{leaves-less}
 use Rattle.tree.proofs.Steps.{pair}
-use Rattle.tree.proofs.declarations.declaration.Statement.{statement}
 use Rattle.tree.proofs.declarations.declaration.Tie as tie
 
 returns-3 : tie.Need-returns-3
@@ -13,7 +12,7 @@ returns-3 c =
     (λ src l h. (let u = unlike2 (after-match .match .rest) in declaration-functions src h (u .0) (u .1)
     (after-functions .functions .ensures .1 src l)))
 
-pub declaration-spec : {M : Type 1} → statement M
+pub declaration-spec : {M : Type 1} → Rattle.tree.proofs.declarations.declaration.Statement.statement M
 declaration-spec =
     tie.close (tie.spec (search needs) (search needs) (search needs) (search needs)
     (λ c. (

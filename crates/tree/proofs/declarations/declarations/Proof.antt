@@ -7,7 +7,6 @@ use Rattle.tree.proofs.Programs.{declaration-positive, no-program-words
 use Rattle.tree.proofs.Loops.{SoFar, before-first, before-next, before-last, wordless, so-begins, many-turns, many-ends, many-spent}
 use Rattle.tree.proofs.Lists.{Before}
 use Rattle.tree.proofs.Steps.{pair}
-use Rattle.tree.proofs.declarations.declarations.Statement.{statement}
 use Rattle.tree.proofs.declarations.declarations.Tie as tie
 
 abbrev Inv-loop : tie.InvT-loop
@@ -17,7 +16,7 @@ Inv-loop s₀ n turns₀ a₀ s turns a =
 abbrev μ-loop : tie.MeasureT-loop
 μ-loop s₀ n turns₀ a₀ s turns a = turns
 
-pub declarations-spec : {M : Type 1} → statement M
+pub declarations-spec : {M : Type 1} → Rattle.tree.proofs.declarations.declarations.Statement.statement M
 declarations-spec =
     tie.close (tie.spec Inv-loop μ-loop (λ c. so-begins (c .before .pre) before-first) (search needs) (λ _ _. tt)
     (λ c κs. pair (search needs) (declaration-positive _ (c .before .before .is-declaration .ensures) (c .before .if1 .taken))) (search needs)

@@ -3,11 +3,10 @@ use Rattle.tree.proofs.Helpers.{low-past}
 use Rattle.tree.proofs.Programs.{declared-read}
 use Rattle.tree.proofs.Rooms.{ready-leaves, ready-part, item-low, ready-takes}
 use Rattle.tree.proofs.Steps.{pair}
-use Rattle.tree.proofs.declarations.declared.Statement.{statement}
 use Rattle.tree.proofs.declarations.declared.Tie as tie
 use Rattle.tree.proofs.Wholes.{leaves, _from_, _with_, _adding_, _setting_}
 
-pub declared-spec : {M : Type 1} → statement M
+pub declared-spec : {M : Type 1} → Rattle.tree.proofs.declarations.declared.Statement.statement M
 declared-spec =
     tie.close (tie.spec (search needs) (search needs) (search needs)
     (λ c κs. let begin-item = c .before .before .before in let expect = begin-item .before .before in

@@ -4,11 +4,10 @@ use Rattle.tree.specs.Reads.{freeOf}
 use Rattle.tree.proofs.Programs.{function-here}
 use Rattle.tree.proofs.Rooms.{freed, size-small, ready-leaves, ready-takes, ready-part, item-low, for-size}
 use Rattle.tree.proofs.Steps.{pair}
-use Rattle.tree.proofs.declarations.function.Statement.{statement}
 use Rattle.tree.proofs.declarations.function.Tie as tie
 use Rattle.tree.proofs.Wholes.{leaves, _writing_, _with_, _setting_}
 
-pub function-spec : {M : Type 1} → statement M
+pub function-spec : {M : Type 1} → Rattle.tree.proofs.declarations.function.Statement.statement M
 function-spec =
     tie.close (tie.spec (λ c κs. search needs) (λ c κs. c .before .before .before .before .pre) (λ c κs. search needs)
     (λ c κs. ready-takes (c .before .before .before .before .before .begin-item .ensures .0)

@@ -2,11 +2,10 @@ use Rattle.laws.proofs.Basics.{refl, needs}
 use Rattle.tree.proofs.Steps.{goes-on, adds-on, _then_, pair}
 use Rattle.tree.proofs.Programs.{body-value, body-routine}
 use Rattle.tree.proofs.Rooms.{ready-leaves}
-use Rattle.tree.proofs.declarations.function_body.Statement.{statement}
 use Rattle.tree.proofs.declarations.function_body.Tie as tie
 use Rattle.tree.proofs.Wholes.{leaves, _from_, _with_, _adding_}
 
-pub function-body-spec : {M : Type 1} → statement M
+pub function-body-spec : {M : Type 1} → Rattle.tree.proofs.declarations.function_body.Statement.statement M
 function-body-spec =
     tie.close (tie.spec (search needs) (search needs) (search needs)
     (λ c κs. let expr = c .before .before .before in let expect = expr .before .before in

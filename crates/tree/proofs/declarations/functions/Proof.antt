@@ -3,7 +3,6 @@ use Rattle.tree.proofs.Programs.{functions-read}
 use Rattle.laws.proofs.Basics.{refl, needs}
 use Rattle.tree.proofs.Steps.{pair}
 use Rattle.tree.proofs.Rooms.{left, room-left, _plus_}
-use Rattle.tree.proofs.declarations.functions.Statement.{statement}
 use Rattle.tree.proofs.declarations.functions.Tie as tie
 
 returns : tie.Need-returns
@@ -13,5 +12,5 @@ returns c =
     (λ src l. functions-read src (l .count) (after-function .function .ensures .1 src l)
     (after-further-functions .further-functions .ensures .1 src (lies-still l (after-function .function .ensures .0 .kept))))
 
-pub functions-spec : {M : Type 1} → statement M
+pub functions-spec : {M : Type 1} → Rattle.tree.proofs.declarations.functions.Statement.statement M
 functions-spec = tie.close (tie.spec (search needs) (search needs) (search needs) returns)

@@ -8,7 +8,6 @@ use Rattle.tree.proofs.Loops.{SoFar, before-first, before-next, before-
 use Rattle.tree.proofs.Rooms.{ready-leaves}
 use Rattle.tree.proofs.Lists.{Before}
 use Rattle.tree.proofs.Choices.{at-any}
-use Rattle.tree.proofs.declarations.further_functions.Statement.{statement}
 use Rattle.tree.proofs.declarations.further_functions.Tie as tie
 
 abbrev Inv-loop : tie.InvT-loop
@@ -19,7 +18,7 @@ Inv-loop s₀ n turns₀ a₀ s turns a =
 abbrev μ-loop : tie.MeasureT-loop
 μ-loop s₀ n turns₀ a₀ s turns a = turns
 
-pub further-functions-spec : {M : Type 1} → statement M
+pub further-functions-spec : {M : Type 1} → Rattle.tree.proofs.declarations.further_functions.Statement.statement M
 further-functions-spec =
     tie.close (tie.spec Inv-loop μ-loop (λ c. so-begins (c .before .pre) before-first) (search needs) (search needs)
     (λ c. many-ends _ _ _ _ before-last (wordless no-function-words) refl (c .before .before .before .before .loop .inv)

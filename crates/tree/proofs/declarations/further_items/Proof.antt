@@ -7,7 +7,6 @@ use Rattle.tree.proofs.Loops.{SoFar, before-first, so-begins, list-spen
 use Rattle.tree.proofs.Rooms.{takes-none, ready-leaves}
 use Rattle.tree.proofs.Lists.{Before}
 use Rattle.tree.proofs.Steps.{pair}
-use Rattle.tree.proofs.declarations.further_items.Statement.{statement}
 use Rattle.tree.proofs.declarations.further_items.Tie as tie
 
 abbrev Inv-loop : tie.InvT-loop
@@ -16,7 +15,7 @@ Inv-loop s₀ n sign turns₀ a₀ s turns a = SoFar (Before encodeItems) (moreU
 abbrev μ-loop : tie.MeasureT-loop
 μ-loop s₀ n sign turns₀ a₀ s turns a = turns
 
-pub further-items-spec : {M : Type 1} → statement M
+pub further-items-spec : {M : Type 1} → Rattle.tree.proofs.declarations.further_items.Statement.statement M
 further-items-spec =
     tie.close (tie.spec Inv-loop μ-loop (λ c. so-begins (c .before .pre .0) before-first) (search needs) (search needs) (search needs)
     (λ c. let if1 = c .before .before in let kind-here = if1 .before in let in-loop = kind-here .before .before .before in list-ends _ _ _

@@ -2,11 +2,10 @@ use Rattle.laws.proofs.Basics.{refl, arith, needs}
 use Rattle.tree.proofs.Programs.{item-list-read}
 use Rattle.tree.proofs.Rooms.{ready-leaves}
 use Rattle.tree.proofs.Steps.{pair}
-use Rattle.tree.proofs.declarations.item_list.Statement.{statement}
 use Rattle.tree.proofs.declarations.item_list.Tie as tie
 use Rattle.tree.proofs.Wholes.{leaves, _from_, _with_}
 
-pub item-list-spec : {M : Type 1} → statement M
+pub item-list-spec : {M : Type 1} → Rattle.tree.proofs.declarations.item_list.Statement.statement M
 item-list-spec =
     tie.close (tie.spec (search needs)
     (λ c κs. pair (ready-leaves (c .before .expect .ensures .0) refl refl (c .before .before .before .before .pre .0)) (omega arith))

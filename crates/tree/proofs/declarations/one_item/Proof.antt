@@ -3,7 +3,6 @@ use Rattle.tree.proofs.Helpers.{low}
 use Rattle.tree.proofs.Programs.{item-here}
 use Rattle.tree.proofs.Rooms.{ready-leaves, ready-takes, ready-part, item-low}
 use Rattle.tree.proofs.Steps.{pair}
-use Rattle.tree.proofs.declarations.one_item.Statement.{statement}
 use Rattle.tree.proofs.declarations.one_item.Tie as tie
 use Rattle.tree.proofs.Wholes.{leaves, _writing_, _with_, _setting_}
 
@@ -28,7 +27,7 @@ set-size-requires c κs =
     pair (ready-leaves (after-constant .constant .ensures .0) (after-constant .constant .kept .0) refl
     (constant-requires (after-constant .before) κs)) (item-low (after-free-of .free-of .ensures) (ready-part (start .pre .0) refl))
 
-pub one-item-spec : {M : Type 1} → statement M
+pub one-item-spec : {M : Type 1} → Rattle.tree.proofs.declarations.one_item.Statement.statement M
 one-item-spec =
     tie.close (tie.spec (search needs) (search needs) a-name-requires expect-requires constant-requires set-size-requires (search needs)
     (λ c. let set-size = c .before .before in let constant = set-size .before .before .before .before in let expect = constant .before .before in

@@ -1,10 +1,9 @@
 use Rattle.tree.proofs.Programs.{no-parameters, some-parameters}
 use Rattle.laws.proofs.Basics.{refl, needs}
-use Rattle.tree.proofs.declarations.parameters.Statement.{statement}
 use Rattle.tree.proofs.declarations.parameters.Tie as tie
 use Rattle.tree.proofs.Wholes.{leaves, _from_, _with_}
 
-pub parameters-spec : {M : Type 1} → statement M
+pub parameters-spec : {M : Type 1} → Rattle.tree.proofs.declarations.parameters.Statement.statement M
 parameters-spec =
     tie.close (tie.spec (search needs) (search needs) (search needs)
     (λ c. (

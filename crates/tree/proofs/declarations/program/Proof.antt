@@ -3,10 +3,9 @@ use Rattle.tree.proofs.Programs.{program-read, program-refused}
 use Rattle.laws.proofs.Basics.{refl, needs}
 use Rattle.tree.proofs.Steps.{pair}
 use Rattle.tree.proofs.Rooms.{left, room-left, _plus_}
-use Rattle.tree.proofs.declarations.program.Statement.{statement}
 use Rattle.tree.proofs.declarations.program.Tie as tie
 
-pub program-spec : {M : Type 1} → statement M
+pub program-spec : {M : Type 1} → Rattle.tree.proofs.declarations.program.Statement.statement M
 program-spec =
     tie.close (tie.spec (search needs) (search needs) (search needs)
     (λ c. let kind-here = c .before in let declarations = kind-here .before .before .before .before in pair (declarations .declarations .ensures .0)

@@ -1,9 +1,8 @@
 use Rattle.tree.proofs.Names.{a-name-read}
 use Rattle.laws.proofs.Basics.{needs}
-use Rattle.tree.proofs.parts.a_name.Statement.{statement}
 use Rattle.tree.proofs.parts.a_name.Tie as tie
 
-pub a-name-spec : {M : Type 1} → statement M
+pub a-name-spec : {M : Type 1} → Rattle.tree.proofs.parts.a_name.Statement.statement M
 a-name-spec =
     tie.close (tie.spec (search needs) (search needs) (search needs)
     (λ c. (

@@ -1,9 +1,8 @@
 use Rattle.tree.proofs.Leaves.{number-read, string-read, name-read, true-read, false-read, other-read}
 use Rattle.laws.proofs.Basics.{needs}
-use Rattle.tree.proofs.parts.atom.Statement.{statement}
 use Rattle.tree.proofs.parts.atom.Tie as tie
 
-pub atom-spec : {M : Type 1} → statement M
+pub atom-spec : {M : Type 1} → Rattle.tree.proofs.parts.atom.Statement.statement M
 atom-spec =
     tie.close (tie.spec (search needs) (search needs) (search needs) (search needs) (search needs) (search needs) (search needs) (search needs)
     (λ c. number-read (c .before .before .before .before .before .value-here .ensures) (c .before .before .before .before .match .keys1)

@@ -3,11 +3,10 @@ use Rattle.tree.proofs.Helpers.{low-past}
 use Rattle.tree.proofs.Cases.{default-read, label-default}
 use Rattle.tree.proofs.Rooms.{freed, ready-leaves, ready-takes, item-low}
 use Rattle.tree.proofs.Steps.{pair}
-use Rattle.tree.proofs.parts.default_label.Statement.{statement}
 use Rattle.tree.proofs.parts.default_label.Tie as tie
 use Rattle.tree.proofs.Wholes.{leaves, _from_, _with_, _adding_, _setting_}
 
-pub default-label-spec : {M : Type 1} → statement M
+pub default-label-spec : {M : Type 1} → Rattle.tree.proofs.parts.default_label.Statement.statement M
 default-label-spec =
     tie.close (tie.spec (search needs) (search needs) (search needs) (search needs) (search needs)
     (λ c κs. let begin-item = c .before .before .before .before .before in let expect = begin-item .before .before in

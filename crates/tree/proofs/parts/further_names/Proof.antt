@@ -6,7 +6,6 @@ use Rattle.tree.proofs.Names.{no-name-words, further-name-reads}
 use Rattle.tree.proofs.Loops.{SoFar, before-first, before-next, before-last, wordless, so-begins, many-turns, many-ends, many-spent}
 use Rattle.tree.proofs.Lists.{Before}
 use Rattle.tree.proofs.Choices.{at-any}
-use Rattle.tree.proofs.parts.further_names.Statement.{statement}
 use Rattle.tree.proofs.parts.further_names.Tie as tie
 
 abbrev Inv-loop : tie.InvT-loop
@@ -16,7 +15,7 @@ Inv-loop s₀ n turns₀ a₀ s turns a =
 abbrev μ-loop : tie.MeasureT-loop
 μ-loop s₀ n turns₀ a₀ s turns a = turns
 
-pub further-names-spec : {M : Type 1} → statement M
+pub further-names-spec : {M : Type 1} → Rattle.tree.proofs.parts.further_names.Statement.statement M
 further-names-spec =
     tie.close (tie.spec Inv-loop μ-loop (λ c. so-begins (c .before .pre) before-first) (search needs) (search needs)
     (λ c. many-ends _ _ _ _ before-last (wordless no-name-words) refl (c .before .before .before .before .loop .inv) (c .before .kind-here .ensures)

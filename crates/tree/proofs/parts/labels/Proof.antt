@@ -7,7 +7,6 @@ use Rattle.tree.specs.Encoding.{encodeLabels}
 use Rattle.tree.proofs.Cases.{no-label-words}
 use Rattle.tree.proofs.Loops.{SoFar, before-first, before-next, before-last, wordless, so-begins, many-turns, many-ends, many-spent}
 use Rattle.tree.proofs.Lists.{Before}
-use Rattle.tree.proofs.parts.labels.Statement.{statement}
 use Rattle.tree.proofs.parts.labels.Tie as tie
 
 abbrev Inv-loop : tie.InvT-loop
@@ -18,7 +17,7 @@ Inv-loop s₀ n levels turns₀ a₀ s turns a =
 abbrev μ-loop : tie.MeasureT-loop
 μ-loop s₀ n levels turns₀ a₀ s turns a = turns
 
-pub labels-spec : {M : Type 1} → statement M
+pub labels-spec : {M : Type 1} → Rattle.tree.proofs.parts.labels.Statement.statement M
 labels-spec =
     tie.close (tie.spec Inv-loop μ-loop (λ _ _. tt) (λ c. so-begins (c .before .before .pre) before-first) (search needs) (λ _ _. tt) (search needs)
     (search needs) (λ c. omega arith)

@@ -1,9 +1,8 @@
 use Rattle.tree.proofs.Constants.{negative-shut, negative-number, negative-true, negative-false, negative-name}
 use Rattle.laws.proofs.Basics.{needs}
-use Rattle.tree.proofs.parts.negative.Statement.{statement}
 use Rattle.tree.proofs.parts.negative.Tie as tie
 
-pub negative-spec : {M : Type 1} → statement M
+pub negative-spec : {M : Type 1} → Rattle.tree.proofs.parts.negative.Statement.statement M
 negative-spec =
     tie.close (tie.spec (search needs) (search needs) (λ c. negative-shut _ (c .before .before .if1 .taken) (c .refuse .ensures)) (search needs)
     (search needs) (search needs) (search needs) (search needs) (search needs) (search needs) (search needs) (search needs)

@@ -2,7 +2,6 @@ use Rattle.tree.proofs.Names.{by-read, no-by}
 use Rattle.laws.proofs.Basics.{refl, needs}
 use Rattle.tree.proofs.Rooms.{leaves-all, left, room-left, _plus_}
 use Rattle.tree.proofs.Steps.{pair}
-use Rattle.tree.proofs.parts.optional_by.Statement.{statement}
 use Rattle.tree.proofs.parts.optional_by.Tie as tie
 
 returns : tie.Need-returns
@@ -13,7 +12,7 @@ returns c =
     (λ src l. by-read src _ (after-kind-here .kind-here .ensures src l) (after-if1 .if1 .taken) (after-expect .expect .ensures .1 src l)
     (after-constant .constant .ensures .1 src l))
 
-pub optional-by-spec : {M : Type 1} → statement M
+pub optional-by-spec : {M : Type 1} → Rattle.tree.proofs.parts.optional_by.Statement.statement M
 optional-by-spec =
     tie.close (tie.spec (search needs) (search needs) (search needs) (search needs) returns (search needs)
     (λ c. (leaves-all (c .before .before .before .before .pre), λ src l. no-by src _ (c .before .kind-here .ensures src l) (c .if1 .left))))

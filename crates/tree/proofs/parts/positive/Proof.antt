@@ -1,9 +1,8 @@
 use Rattle.tree.proofs.Leaves.{positive-number, positive-true, positive-false, positive-name}
 use Rattle.laws.proofs.Basics.{needs}
-use Rattle.tree.proofs.parts.positive.Statement.{statement}
 use Rattle.tree.proofs.parts.positive.Tie as tie
 
-pub positive-spec : {M : Type 1} → statement M
+pub positive-spec : {M : Type 1} → Rattle.tree.proofs.parts.positive.Statement.statement M
 positive-spec =
     tie.close (tie.spec (search needs) (search needs) (search needs) (search needs) (search needs) (search needs)
     (λ c. positive-number (c .before .before .before .before .before .value-here .ensures) (c .before .before .before .before .match .keys1)

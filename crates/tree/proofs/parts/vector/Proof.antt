@@ -2,11 +2,10 @@ use Rattle.tree.proofs.Steps.{goes-on, adds-on, _then_, pair}
 use Rattle.laws.proofs.Basics.{refl, arith, needs}
 use Rattle.tree.proofs.Lets.{vector-read}
 use Rattle.tree.proofs.Rooms.{measured, ready-leaves, size-small}
-use Rattle.tree.proofs.parts.vector.Statement.{statement}
 use Rattle.tree.proofs.parts.vector.Tie as tie
 use Rattle.tree.proofs.Wholes.{leaves, _from_, _with_, _adding_}
 
-pub vector-spec : {M : Type 1} → statement M
+pub vector-spec : {M : Type 1} → Rattle.tree.proofs.parts.vector.Statement.statement M
 vector-spec =
     tie.close (tie.spec (search needs) (search needs) (search needs) (search needs)
     (λ c. let minus = c .before .before .before .before .before .before .before in let free-of = minus .before in

@@ -1,9 +1,8 @@
 use Rattle.laws.proofs.Basics.{length-set, arith, needs}
 use Rattle.tree.proofs.Helpers.{room-is, record-written, adds-refused, refused-grows}
-use Rattle.tree.proofs.scratch.node.Statement.{statement}
 use Rattle.tree.proofs.scratch.node.Tie as tie
 
-pub node-spec : {M : Type 1} → statement M
+pub node-spec : {M : Type 1} → Rattle.tree.proofs.scratch.node.Statement.statement M
 node-spec =
     tie.close (tie.spec (search needs) (search needs)
     (λ c. omega (arith, room-is (c .before .before .before .before .before .pre) (c .before .before .r .given .1)))

@@ -1,6 +1,5 @@
 use Rattle.laws.proofs.Basics.{ℕ, _-_, ap, _∙_, arith, needs}
 use Rattle.tree.proofs.Helpers.{room-is, set-size-fits, set-kept, sized-set, sized-past, sized-refused}
-use Rattle.tree.proofs.scratch.set_size.Statement.{statement}
 use Rattle.tree.proofs.scratch.set_size.Tie as tie
 
 returns : tie.Need-returns
@@ -11,7 +10,7 @@ returns c = (
       (c .minus2 .ensures ∙ ap (λ (z : ℕ). z - 2) (c .before .minus .ensures)),
 )
 
-pub set-size-spec : {M : Type 1} → statement M
+pub set-size-spec : {M : Type 1} → Rattle.tree.proofs.scratch.set_size.Statement.statement M
 set-size-spec =
     tie.close
     (tie.spec (search needs) (search needs) (search needs)
