@@ -1,7 +1,7 @@
 -- From the walk of the tree to the answer: what the walk asks holds of every tree that is read, and what it leaves is the generator's text.
 use Rattle.laws.proofs.Basics.{ℕ, zero, suc, _+_, _-_, _*_, _≤_, _≡_, refl, sym, ap, _∙_, List, [], _∷_, _++_, append-assoc, Bool, true, false, not}
-use Rattle.laws.proofs.Basics.{cond, length, getD, take, drop, replicate, length-append, List·getD-append, length-take-le, getD-append-add, eqb}
-use Rattle.laws.proofs.Basics.{ltb, add-one, arith, eqb-true, ne-eqb, ltb-false}
+use Rattle.laws.proofs.Basics.{cond, length, getD, take, drop, replicate, length-append, List·getD-append, length-take-le, getD-append-add, eqb, ltb}
+use Rattle.laws.proofs.Basics.{add-one, arith, eqb-true, ne-eqb, ltb-false}
 use Rattle.laws.proofs.Cases.{by-cases, contradiction}
 use Rattle.language.specs.Kinds.{STRING}
 use Rattle.items.specs.Item.{Item}

@@ -3,7 +3,7 @@ use Rattle.laws.proofs.Basics.{ℕ, _+_, _-_, _*_, _<_, _≤_, _≡_, refl, sym
 use Rattle.laws.proofs.Basics.{length-append, arith}
 use Rattle.language.specs.Tree as T
 use Rattle.compiler.proofs.Language.{Expression, Expressions, Unlabelled, placeOf, depth, expressionsDepth, unlabelledDepth, Scope, Fault}
-use Rattle.compiler.proofs.Language.{expression, unlabelled, sides, pairUp, sideOf, targetOf, ofExpr, ofTarget, ofPairs, ofCmd, Leavable}
+use Rattle.compiler.proofs.Language.{expression, unlabelled, sides, pairUp, sideOf, targetOf, ofPairs, ofCmd, Leavable}
 use Rattle.compiler.proofs.Language.{inExpression, inUnlabelled, inSides, inRightSides, unlessSide, encode, encodeSides, encodeFirst}
 use Rattle.compiler.proofs.Language.{encodeExpressions, encodeUnlabelled, FineList, FineUnlabelled}
 use Rattle.language.specs.Resolved as R
@@ -11,7 +11,7 @@ use Rattle.code.specs.Generate as G
 use Rattle.compiler.proofs.Vocabulary.{Keeps, State, Here, Node, Ways, FineE, FineEs, FinePlain, raised, leavable, leavableBy, NodeAt, Did}
 use Rattle.compiler.proofs.Vocabulary.{Lies, Result, ReadyE, GaveE}
 use Rattle.compiler.proofs.Scoping.{keeps-all, keeps-then}
-use Rattle.compiler.specs.Commands.{cmdSays, targetSays, pairsSays, GaveSide, ReadyU, GaveU}
+use Rattle.compiler.specs.Commands.{cmdSays, pairsSays, GaveSide, ReadyU, GaveU}
 use Rattle.compiler.specs.Assigns.{encodeBoth, deepBoth, FineBoth, ReadyAssign, GaveAssign}
 use Rattle.compiler.proofs.Done.{Same, same-refl, same-eq, same-swap, same-then, same-both, did-none, did-then, did-as, code-is}
 use Rattle.compiler.proofs.Trees.{first, second, ends}

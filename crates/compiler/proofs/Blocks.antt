@@ -1,5 +1,6 @@
 -- Lists of commands, locals and blocks.
-use Rattle.laws.proofs.Basics.{ℕ, suc, _+_, _-_, _*_, _<_, _≤_, _≡_, refl, sym, ap, subst, _∙_, List, _++_, append-assoc, length, getD, arith}
+use Rattle.laws.proofs.Basics.{ℕ, suc, _+_, _-_, _*_, _<_, _≤_, _≡_, refl, sym, ap, subst, _∙_, List, _++_, append-assoc, length, getD, add-zero}
+use Rattle.laws.proofs.Basics.{arith}
 use Rattle.language.specs.Tree as T
 use Rattle.compiler.proofs.Language.{Name, Expressions, Command, Commands, Unlabelled, commandDepth, commandsDepth, unlabelledDepth}
 use Rattle.compiler.proofs.Language.{localsDepth, Scope, opened, declared, forVector, judgedWord, expressions, commands, unlabelled, locals}
@@ -121,7 +122,7 @@ code-with : (text : List ℕ) (sc : Scope) (here : Here) (n : ℕ) (x : Local) (
 unfolding locals localSays scopeWith heightWith FineLocal G.localsCode ofLocals G.localsLabels
 code-with text sc here n (aVector m c) ls f =
     let h = here .height in let h′ = h + 2 + judgedWord (forVector text sc c) in let ls′ = locals text (declared sc m (N.local h)) h′ ls in
-    let a : n + 0 ≡ n = omega arith in code-is (rw a) refl (omega arith)
+    code-is (rw (add-zero n)) refl (omega arith)
 code-with text sc here n (someValues ns es) ls f =
     let h = here .height in let rs = expressions text sc h es in let ls′ = locals text (declareAll sc h ns) (h + length ns) ls in
     let k = count-is text sc h ns es (f .0) in let v = values-before (here .strings) h n rs ls′ in code-is (cc (v .0)) (cc (v .1)) (sym (v .2))

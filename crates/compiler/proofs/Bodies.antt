@@ -34,8 +34,8 @@ module _ {s : List ℕ} {end word : ℕ} {x : Here} {st : State} where
       let q : encodeBody (z .tree) ≡ encodeCommand (v .0) = ap encodeBody (v .1) in
       sub z keeps-all (rw q at (z .lies)) refl (omega (arith, ap length q, ap bodyDepth (v .1))) (subst FineB (v .1) (z .fine))
 
-  abbrev Owed : ReadyBody s end x st word → (text s′ t t′ : List ℕ) (r : State) → T.Body → Type 0
-  Owed y text s′ t t′ r b = let z = y .ready in
+  abbrev Gives : ReadyBody s end x st word → (text s′ t t′ : List ℕ) (r : State) → T.Body → Type 0
+  Gives y text s′ t t′ r b = let z = y .ready in
       Result (bodyFaults text (z .scope) (x .height) b) (bodySays text x (z .scope) b) (length (encodeBody b)) (z .base) x s s′ t t′ st r
 
   module _ {text s′ t t′ : List ℕ} {r : State} where
@@ -45,7 +45,7 @@ module _ {s : List ℕ} {end word : ℕ} {x : Here} {st : State} where
       by = λ y.
           let z = y .ready in let v = value-is (z .tree) (sym (y .word-is) ∙ e) in
           let out : x .routine ≡ false = y .routine-is ∙ ap not (eq-eqb word K.EQUAL e) in
-          subst (Owed y text s′ t t′ r) (sym (v .1))
+          subst (Gives y text s′ t t′ r) (sym (v .1))
           (subst (λ (k : Bool). Result (inExpression text (z .scope) (record { loop = false; switch = false; valof = false; routine = k }) (x
           .height) (v .0)) (bodySays text x (z .scope) (T.value (v .0))) (length (encode (v .0))) (z .base) x s s′ t t′ st r)
           out (g .by (ready-value e y)));
@@ -56,5 +56,5 @@ module _ {s : List ℕ} {end word : ℕ} {x : Here} {st : State} where
     gave-routine e g = record {
       by = λ y. let z = y .ready in let v = routine-is (z .tree) (λ k. e (y .word-is ∙ k)) in let out : x .routine ≡ true = y .routine-is ∙ ap not
           (ne-eqb word K.EQUAL e) in
-          subst (Owed y text s′ t t′ r) (sym (v .1)) (rw (← out) (g .by (ready-routine e y)));
+          subst (Gives y text s′ t t′ r) (sym (v .1)) (rw (← out) (g .by (ready-routine e y)));
     }

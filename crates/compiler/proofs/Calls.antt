@@ -1,6 +1,6 @@
 -- Arguments, and what follows a primary.
-use Rattle.laws.proofs.Basics.{ℕ, suc, _+_, _-_, _*_, _<_, _≤_, _≡_, refl, sym, ap, subst, _∙_, List, [], _∷_, _++_, append-assoc, append-nil}
-use Rattle.laws.proofs.Basics.{length, getD, length-append, List·getD-append, getD-append-add, ltb, arith, ltb-true, ltb-false}
+use Rattle.laws.proofs.Basics.{ℕ, suc, _+_, _-_, _*_, _<_, _≤_, _≡_, refl, sym, ap, subst, _∙_, List, [], _∷_, _++_, append-assoc, append-nil, length}
+use Rattle.laws.proofs.Basics.{getD, length-append, List·getD-append, getD-append-add, ltb, arith, ltb-true, ltb-false}
 use Rattle.laws.proofs.Cases.{by-cases}
 use Rattle.language.specs.Tree as T
 use Rattle.compiler.proofs.Language.{Expression, Expressions, Suffixes, depth, expressionsDepth, suffixesDepth, Scope, Expr, expression}
@@ -11,7 +11,7 @@ use Rattle.language.specs.Heights as H
 use Rattle.code.specs.Generate as G
 use Rattle.code.specs.Generate.{exprCode, exprsCode, exprLabels, exprsLabels}
 use Rattle.compiler.proofs.Vocabulary.{Keeps, State, Here, Node, FineE, FineEs, FineSs, inside, raised, leavable, NodeAt, Did, Emits}
-use Rattle.compiler.proofs.Vocabulary.{Reached, exprSays, exprsSays, Lies, Ready, Result, ReadyE, GaveE, faultsE, codeE, ReadyArgs, GaveArgs}
+use Rattle.compiler.proofs.Vocabulary.{Reached, exprSays, exprsSays, Lies, Ready, ReadyE, GaveE, ReadyArgs, GaveArgs}
 use Rattle.compiler.proofs.Vocabulary.{Counts, encodeApplied, codeA, ReadySuffixes, GaveSuffixes, GaveIndexed, GavePassed}
 use Rattle.compiler.proofs.Scoping.{keeps-all, keeps-then}
 use Rattle.compiler.proofs.Done.{did-emit, did-put, did-after, did-none, did-then, did-as, same-refl, same-eq, same-swap, same-then, code-is}

@@ -1,6 +1,6 @@
 -- The least key of faults is that of the least fault, if places and numbers fit; and the answer by the least keys is that of the rules.
 use Rattle.laws.proofs.Basics.{ℕ, _+_, _*_, _/_, _%_, _^_, _<_, _≤_, _≡_, refl, ap, _∙_, List, [], _∷_, Bool, true, false, not, cond, length, eqb}
-use Rattle.laws.proofs.Basics.{ltb, arith, eq-eqb, ne-eqb, eqb-true, eqb-false, lt-ltb, le-ltb, ltb-true, ltb-false}
+use Rattle.laws.proofs.Basics.{ltb, arith, eqb-true, eqb-false, eq-eqb, ne-eqb, ltb-true, ltb-false, lt-ltb, le-ltb}
 use Rattle.laws.proofs.Cases.{by-cases}
 use mathlib.Core.Logic.{_≢_}
 use Rattle.language.specs.Constants.{Fault}

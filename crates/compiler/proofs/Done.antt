@@ -1,6 +1,6 @@
 -- Laws of what is done: faults, items, heights and labels, one after another.
 use Rattle.laws.proofs.Basics.{ℕ, suc, _+_, _-_, _*_, _/_, _%_, _^_, _<_, _≤_, min, _≡_, refl, sym, ap, _∙_, List, [], _∷_, _++_, append-nil, true}
-use Rattle.laws.proofs.Basics.{false, cond, length, getD, ltb, arith, eq-eqb, ne-eqb, lt-ltb, le-ltb, ltb-true, ltb-false}
+use Rattle.laws.proofs.Basics.{false, cond, length, getD, ltb, add-zero, arith, eq-eqb, ne-eqb, ltb-true, ltb-false, lt-ltb, le-ltb}
 use Rattle.laws.proofs.Cases.{by-cases}
 use Rattle.items.specs.Item as I
 use Rattle.compiler.proofs.Language.{Fault, fault, ofExpr, greatest}
@@ -215,8 +215,8 @@ module _ {fs : List Fault} {f : ℕ → Code} {m : ℕ} {t t₁ t₂ : List ℕ}
 
   pub did-after : {hs : List ℕ} → Emits xs hs t t₁ st a → Did fs f m t₁ t₂ a b
       → Did fs (λ n. record { items = xs ++ f n .items; heights = hs ++ f n .heights; labels = f n .labels }) m t t₂ st b
-  did-after e x = did-as _ m (did-then (emits-did _ e (λ n. refl)) x) same-refl (λ n c. let z : n + 0 ≡ n = omega arith in
-      rw z (code-is refl refl (omega arith))) (omega arith)
+  did-after e x = did-as _ m (did-then (emits-did _ e (λ n. refl)) x) same-refl (λ n c.
+      rw (add-zero n) (code-is refl refl (omega arith))) (omega arith)
 
 -- after new labels
 pub did-fresh : {fs : List Fault} {f : ℕ → Code} {k m : ℕ} {t t′ : List ℕ} {st a b : State} → Fresh k st a → Did fs f m t t′ a b

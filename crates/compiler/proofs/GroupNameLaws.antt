@@ -1,7 +1,7 @@
 -- The names of a group: the loop over its functions, and where they start.
-use Rattle.laws.proofs.Basics.{ℕ, suc, _+_, _*_, _^_, _<_, _≤_, _≡_, refl, sym, ap, subst, _∙_, List, [], _∷_, _++_, append-assoc, append-nil, length}
-use Rattle.laws.proofs.Basics.{getD, set, length-append, List·getD-append, List·getD-eq-default, getD-set-same, getD-set-other, getD-append-seam, _⊎_}
-use Rattle.laws.proofs.Basics.{inl, inr, ⊎-elim, eqb, ltb, arith, eqb-true, eqb-false, ltb-true, ltb-false}
+use Rattle.laws.proofs.Basics.{ℕ, suc, _+_, _*_, _^_, _<_, _≤_, _≡_, refl, sym, ap, subst, _∙_, List, [], _∷_, _++_, append-assoc, append-nil, _⊎_}
+use Rattle.laws.proofs.Basics.{inl, inr, ⊎-elim, length, getD, set, length-append, List·getD-append, List·getD-eq-default, getD-set-same}
+use Rattle.laws.proofs.Basics.{getD-set-other, getD-append-seam, eqb, ltb, arith, eqb-true, eqb-false, ltb-true, ltb-false}
 use Rattle.laws.proofs.Cases.{by-cases, contradiction}
 use Rattle.compiler.proofs.Language.{Name, Function, Scope, lookup, Fault, Start, nowhere, inGlobal, encodeName, encodeFunctions, FineName}
 use Rattle.compiler.proofs.Language.{FineFunctions}

@@ -1,6 +1,6 @@
 -- REPEAT forms: one of a list, the loop over them, and a command with them.
 use Rattle.laws.proofs.Basics.{ℕ, zero, suc, _+_, _-_, _*_, _^_, _<_, _≤_, _≡_, refl, sym, ap, subst, _∙_, List, [], _∷_, _++_, append-assoc}
-use Rattle.laws.proofs.Basics.{append-nil, cond, length, getD, length-append, eqb, arith}
+use Rattle.laws.proofs.Basics.{append-nil, cond, length, getD, length-append, eqb, add-zero, arith}
 use Rattle.items.specs.Item as I
 use Rattle.language.specs.Kinds as K
 use Rattle.language.specs.Tree as T
@@ -107,7 +107,7 @@ form-code : (text : List ℕ) (x : Here) (sc : Scope) (own n : ℕ) (f : AForm) 
       labels = c .labels + formsLabels text sc (x .height) rs;
     }) (formsSays text x sc own (withForm f rs) n)
 unfolding formsCode formsHeights formsLabels
-form-code text x sc own n alone rs = let a : n + 0 ≡ n = omega arith in code-is (rw a) refl (omega arith)
+form-code text x sc own n alone rs = code-is (rw (add-zero n)) refl (omega arith)
 form-code text x sc own n (onTest w e) rs =
     let E = G.exprCode (x .strings) (x .height) n (expression text sc (x .height) e) in let J = G.jumpWhen (eqb w K.REPEATWHILE) own in
     let F = formsCode text sc (x .strings) (x .height) (own - 3) rs (n + G.exprLabels (expression text sc (x .height) e)) in

@@ -1,6 +1,6 @@
 -- The text of the globals in which functions start: one function by its label, and all in turn.
 use Rattle.laws.proofs.Basics.{ℕ, suc, _+_, _<_, _≤_, _≡_, refl, sym, ap, _∙_, List, [], _∷_, _++_, append-assoc, append-nil, length, getD}
-use Rattle.laws.proofs.Basics.{length-append, List·getD-eq-default, ltb, arith, ltb-true, ltb-false}
+use Rattle.laws.proofs.Basics.{length-append, List·getD-eq-default, ltb, add-zero, arith, ltb-true, ltb-false}
 use Rattle.laws.proofs.Cases.{by-cases}
 use Rattle.items.specs.Item as I
 use Rattle.language.specs.Resolved.{Start, nowhere, inGlobal, Fun}
@@ -60,7 +60,7 @@ starts-begin = record { by = λ fs l e s. record { done = []; rest = fs; all = r
 
 starts-then : (l : ℕ) (a b : List Fun) → startsCode l (a ++ b) ≡ startsCode l a ++ startsCode (l + length a) b
 unfolding startsCode
-starts-then l [] b = let z : l + 0 ≡ l = omega arith in rw z
+starts-then l [] b = rw (add-zero l)
 starts-then l (f ∷ a) b = let z : suc l + length a ≡ l + suc (length a) = omega arith in
     let e : startsCode (suc l) (a ++ b) ≡ startsCode (suc l) a ++ startsCode (l + suc (length a)) b = starts-then (suc l) a b ∙ rw z in
     elim (f .start) as (λ s. startIn s l (startsCode (suc l) (a ++ b)) ≡ startIn s l (startsCode (suc l) a) ++ startsCode (l + suc (length a)) b)

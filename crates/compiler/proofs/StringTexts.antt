@@ -1,6 +1,6 @@
 -- The text of the strings: a character by its escape, a string's line, the lines of one symbol, and loops over all symbols.
 use Rattle.laws.proofs.Basics.{ℕ, suc, _+_, _-_, _*_, _/_, _%_, _<_, _≤_, _≡_, refl, sym, ap, _∙_, List, [], _∷_, _++_, append-assoc, append-nil}
-use Rattle.laws.proofs.Basics.{cond, length, getD, drop, length-append, drop-drop, getD-drop, eqb, arith, eq-eqb, ne-eqb, le-leb, lt-leb}
+use Rattle.laws.proofs.Basics.{cond, length, getD, drop, length-append, drop-drop, getD-drop, eqb, add-zero, arith, eq-eqb, ne-eqb, le-leb, lt-leb}
 use Rattle.laws.proofs.Cases.{by-cases, either}
 use Rattle.text.specs.Quoted.{closed, charactersOf, quoted, character, is, closing, ended, mistake}
 use Rattle.text.proofs.Bytes.{Unlike}
@@ -206,7 +206,7 @@ listing-begin {source} {s} {count} = record {
 
 strings-then : (l : ℕ) (a b : List (List ℕ)) → stringsCode l (a ++ b) ≡ stringsCode l a ++ stringsCode (l + length a) b
 unfolding stringsCode
-strings-then l [] b = let z : l + 0 ≡ l = omega arith in rw z
+strings-then l [] b = rw (add-zero l)
 strings-then l (c ∷ a) b = let z : suc l + length a ≡ l + suc (length a) = omega arith in
     ap (λ (is : List I.Item). I.label l ∷ I.string c ∷ is) (strings-then (suc l) a b ∙ rw z)
 

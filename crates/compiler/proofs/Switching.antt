@@ -1,6 +1,6 @@
 -- The labels of a list after INTO: where they stand, which there are, and the words after X23.
 use Rattle.laws.proofs.Basics.{ℕ, suc, _+_, _-_, _^_, _<_, _≤_, _≡_, refl, sym, ap, subst, _∙_, List, [], _∷_, _++_, Bool, true, false, cond, length}
-use Rattle.laws.proofs.Basics.{getD, arith, eqb, eq-eqb, ne-eqb}
+use Rattle.laws.proofs.Basics.{getD, eqb, arith, eq-eqb, ne-eqb}
 use Rattle.laws.proofs.Cases.{contradiction}
 use Rattle.items.specs.Item as I
 use Rattle.language.specs.Tree as T

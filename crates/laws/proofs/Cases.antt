@@ -27,13 +27,6 @@ pub either : {A : Type 0} (P : A → Type 0) (b : Bool) {x y : A} → (b ≡ tru
 either P true h k = h refl
 either P false h k = k refl
 
-pub data Order (n m : ℕ) : Type 0 where
-  lt : n < m → Order n m
-  ge : m ≤ n → Order n m
-
-pub order : (n m : ℕ) → Order n m
-order n m = by-order n m lt ge
-
 -- two constructors that are not the same: `contradiction cc`
 pub contradiction {ℓ} : {P : Type ℓ} → _≡_ {A = ℕ} 0 1 → P
 contradiction z = absurd (omega arith)

@@ -1,6 +1,7 @@
 -- What the last two entries of an expression's words say: its place, and whether it is a call.
 use Rattle.laws.proofs.Basics.{ℕ, _+_, _-_, _<_, _≤_, _≡_, refl, sym, ap, _∙_, List, [], _∷_, _++_, append-assoc, Bool, true, false, length, getD}
 use Rattle.laws.proofs.Basics.{take, length-append, length-take-le, getD-take, getD-append-add, eqb, arith}
+use Rattle.laws.proofs.Cases.{contradiction}
 use Rattle.language.specs.Kinds as K
 use Rattle.language.specs.Tree as T
 use Rattle.language.specs.Tree.{Expression, isCall, endsInCall, placeOf}
@@ -9,7 +10,6 @@ use Rattle.tree.specs.Between.{CallHere, PlaceHere}
 use Rattle.tree.specs.Encoding.{MONADIC, CALLED, DYADIC, suffixedKind, closed, encode, encodeName, encodeCommand, encodeSuffixes}
 use Rattle.tree.specs.Encoding.{encodeOperations}
 use Rattle.tree.proofs.Helpers.{free-is, room-is}
-use Rattle.laws.proofs.Cases.{contradiction}
 use Rattle.tree.specs.declared.scratch.State.{State}
 use Rattle.tree.specs.declared.scratch.State.the-variants.{Read, Refused}
 

@@ -57,13 +57,13 @@ module _ (inner : Inside) (right : ℕ) (src : Source) (b : ℕ) where
       ∙ turn T.noOperations (λ kind. eqb (bindingOf kind) b) (E.operation (E.expression inner right)) src (furtherMost b n) at
       (eq-eqb (bindingOf (kindAt src at)) b q)
 
-module _ {src : Source} {n : ℕ} {s₀ : List ℕ} (l : HoldsSymbols src n s₀) (size x b : ℕ) (pos : b ≡ 0 → ⊥) (rung : b ≡ NEGATION → ⊥)
+module _ {src : Source} {n : ℕ} {s₀ : List ℕ} (l : HoldsSymbols src n s₀) (size x b : ℕ) (pos : b ≡ 0 → ⊥) (no-not : b ≡ NEGATION → ⊥)
     (most : b ≤ LOOSEST) {s s₁ : List ℕ} {r r₁ : State} {kind : ℕ} (k : KindHere src r₁ kind)
     (d₁ : Reads (E.expression (within x) (b - 1) src) encode s s₁ r r₁) where
   pub expression-one : (bindingOf kind ≡ b → ⊥) → Reads (E.expression (within x) b src) encode s s₁ r r₁
   unfolding withOperations
   expression-one h =
-      here _ (λ at free e. chain-is (within x) src b at pos rung most)
+      here _ (λ at free e. chain-is (within x) src b at pos no-not most)
       (bind size encode d₁ stays (λ e q. here (λ m. ok e m) (λ at free y. ap (λ (o : Out Operations). onOut o (λ os q. ok (withOperations e os) q))
       (no-operations (within x) (rightOf b) src b at (λ z. h (ap bindingOf (k .here at free y) ∙ z))))
       (nothing (record { same = append-nil (encode e) }))))
@@ -77,7 +77,7 @@ module _ {src : Source} {n : ℕ} {s₀ : List ℕ} (l : HoldsSymbols src n s₀
       → Adds (recordFrom lo value place DYADIC) s₃ s₄ r₃ r₄ → Reads (E.expression (within x) b src) encode s s₄ r r₄
   expression-more {s₂} {s₃} {s₄} {r₂} {r₃} {r₄} {lo} {value} {place} {right} er hb lo-is ev ep d₂ d₃ d₄ =
       let kp : 0 < kind = binding-positive kind (omega arith) in
-      here _ (λ at free e. chain-is (within x) src b at pos rung most
+      here _ (λ at free e. chain-is (within x) src b at pos no-not most
       ∙ ap (λ (y : ℕ). onOut (E.expression (within x) (b - 1) src at)
       (λ e m. onOut (E.operations b (E.expression (within x) y) src m) (λ os q. ok (withOperations e os) q))) (sym er))
       (look size encode d₁ (goes-on d₂ then goes-on d₃ then adds-on d₄) (λ e v q₁. here _ (λ at free y.

@@ -88,7 +88,7 @@ expression-none x b h d = (d .0, λ src l. here _ (λ at free e. ap (λ (y : ℕ
 at-not :
     (x b : ℕ) → b ≡ NEGATION → (src : Source) (at : ℕ)
     → E.expression (within x) b src at ≡ cond (eqb (kindAt src at) K.NOT) (E.monadic (within x) src at) (E.expression (within x) 4 src at)
-at-not x b rung src at = ap (λ (y : ℕ). E.expression (within x) y src at) rung ∙ negation (within x) src at
+at-not x b is-not src at = ap (λ (y : ℕ). E.expression (within x) y src at) is-not ∙ negation (within x) src at
 
 abbrev Reads-by : Reader Expression → (s s′ : List ℕ) → ℕ → (r r′ : State) → Type 0
 Reads-by read s s′ n r r′ = Reading 1 read (Encodes encode) s s′ n r r′
@@ -114,18 +114,18 @@ module _ (x : ℕ) {s s′ : List ℕ} {n : ℕ} {r r′ : State} {kind : ℕ} w
         unfolding E.subscript
         subscript-primary d = picked kinds _ (λ src at h. rw (ap isMonadic h ∙ sym e ∙ q)) d
 
-    module _ (b : ℕ) (rung : b ≡ NEGATION) where
+    module _ (b : ℕ) (is-not : b ≡ NEGATION) where
       pub expression-not :
           kind ≡ K.NOT → ReadingAt kind 1 (E.monadic (within x)) (Encodes encode) s s′ n r r′
           → Reads-by (E.expression (within x) b) s s′ n r r′
-      expression-not q d = chosen kinds _ (λ src at h. at-not x b rung src at ∙ rw (eq-eqb _ _ (h ∙ q))) d
+      expression-not q d = chosen kinds _ (λ src at h. at-not x b is-not src at ∙ rw (eq-eqb _ _ (h ∙ q))) d
 
       pub expression-shift :
           (kind ≡ K.NOT → ⊥) → Reads-by (E.expression (within x) (b - 1)) s s′ n r r′
           → Reads-by (E.expression (within x) b) s s′ n r r′
       expression-shift q d =
           let z : 4 ≡ b - 1 = omega arith in
-          picked kinds _ (λ src at h. at-not x b rung src at ∙ rw (ne-eqb (kindAt src at) K.NOT (λ y. q (sym h ∙ y)))
+          picked kinds _ (λ src at h. at-not x b is-not src at ∙ rw (ne-eqb (kindAt src at) K.NOT (λ y. q (sym h ∙ y)))
           (ap (λ (y : ℕ). E.expression (within x) y src at) z)) d
 
     pub primary-bracketed : kind ≡ K.OPEN → Reads-by (E.bracketed (within x)) s s′ n r r′ → Reads-by (E.primary (within x)) s s′ n r r′

@@ -1,6 +1,6 @@
 -- The readers of commands: what each construct's parts make together, one law for each.
-use Rattle.laws.proofs.Basics.{ℕ, _+_, _-_, _<_, _≤_, _≡_, refl, sym, ap, _∙_, List, [], _∷_, _++_, append-nil, Bool, true, false, cond}
-use Rattle.laws.proofs.Basics.{length, eqb, arith, eq-eqb, ne-eqb}
+use Rattle.laws.proofs.Basics.{ℕ, _-_, _<_, _≤_, _≡_, refl, sym, ap, _∙_, List, [], _∷_, _++_, append-nil, Bool, true, false, cond, length, eqb}
+use Rattle.laws.proofs.Basics.{arith, eq-eqb, ne-eqb}
 use Rattle.language.specs.Kinds as K
 use Rattle.language.specs.Kinds.{member}
 use Rattle.language.specs.Tree as T

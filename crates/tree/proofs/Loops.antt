@@ -19,8 +19,8 @@ pub record SoFar {A : Type 0} (Says : (A → A) → List ℕ → Type 0) (read r
   pub partly : (src : Source) → HoldsSymbols src n s₀ → PartlyAs (read src) (rest src) Says s₀ s r₀ r
 
 -- how what is said of the items so far goes on, and how it ends
-abbrev pub Goes : {A : Type 0} → (Says One Says′ : (A → A) → List ℕ → Type 0) → Type 0
-Goes {A} Says One Says′ = (put put′ : A → A) (w w′ : List ℕ) → Says put w → One put′ w′ → Says′ (λ x. put (put′ x)) (w ++ w′)
+abbrev pub Appends : {A : Type 0} → (Says One Says′ : (A → A) → List ℕ → Type 0) → Type 0
+Appends {A} Says One Says′ = (put put′ : A → A) (w w′ : List ℕ) → Says put w → One put′ w′ → Says′ (λ x. put (put′ x)) (w ++ w′)
 
 abbrev pub Ends : {A : Type 0} → (Says : (A → A) → List ℕ → Type 0) → (Rest Full : A → List ℕ → Type 0) → Type 0
 Ends {A} Says Rest Full = (put : A → A) (a : A) (w v : List ℕ) → Says put w → Rest a v → Full (put a) (w ++ v)
@@ -29,7 +29,7 @@ module _ {A : Type 0} {enc : A → List ℕ} where
   pub before-first : Before enc (λ x. x) []
   before-first = record { puts = λ x. refl }
 
-  pub before-next : Goes (Before enc) (Prepends enc) (Before enc)
+  pub before-next : Appends (Before enc) (Prepends enc) (Before enc)
   before-next put put′ w w′ h h′ =
       record { puts = λ x. h .puts (put′ x) ∙ ap (λ (l : List ℕ). w ++ l) (h′ .puts x) ∙ sym (append-assoc w w′ (enc x)) }
 
@@ -46,7 +46,7 @@ module _ {A : Type 0} {Says : (A → A) → List ℕ → Type 0} {read : Reader 
   module _ {rest : Reader A} {s : List ℕ} {r : State} (so : SoFar Says read rest s₀ s n r₀ r) where
     pub so-turns :
         (rest′ : Reader A) {one : Reader (A → A)} {One Says′ : (A → A) → List ℕ → Type 0} {k : ℕ} {s₁ : List ℕ} {r₁ : State}
-        → Goes Says One Says′ → Reading k one One s s₁ n r r₁ → length s₁ ≡ length s
+        → Appends Says One Says′ → Reading k one One s s₁ n r r₁ → length s₁ ≡ length s
         → ((src : Source) → HoldsSymbols src n s → (at free : ℕ) → r ≡ Read at free
         → rest src at ≡ onOut (one src at) (λ put m. onOut (rest′ src m) (λ more q. ok (put more) q)))
         → SoFar Says′ read rest′ s₀ s₁ n r₀ r₁
@@ -74,7 +74,7 @@ module _ {A : Type 0} (none : A) (starts : ℕ → Bool) (one : Reader (A → A)
     {r₀ r : State} where
   pub many-turns :
       {read : Reader A} {One Says′ : (A → A) → List ℕ → Type 0} {k kind : ℕ} {s₁ : List ℕ} {r₁ : State}
-      → Goes Says One Says′ → SoFar Says read (manyUpTo t none starts one) s₀ s n r₀ r → KindsHere s n r kind → starts kind ≡ true
+      → Appends Says One Says′ → SoFar Says read (manyUpTo t none starts one) s₀ s n r₀ r → KindsHere s n r kind → starts kind ≡ true
       → ReadingAt kind k one One s s₁ n r r₁ → length s₁ ≡ length s → 0 < t
       → SoFar Says′ read (manyUpTo (t - 1) none starts one) s₀ s₁ n r₀ r₁
   many-turns next so k b d e h =

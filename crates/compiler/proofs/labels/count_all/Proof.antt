@@ -12,6 +12,7 @@ pub count-all-spec : {M : Type 1} → Rattle.compiler.proofs.labels.cou
 count-all-spec =
     tie.close (tie.spec Inv-loop (λ s from end at₀ n₀ at n. end - at) (λ c. (omega arith, λ lss r. search count-begin)) (search needs)
     (λ c κs. omega arith) (λ c _. c .labels-of .ensures .small) (λ c. omega arith) (λ c. omega arith)
+    -- loop-again
     (λ c. (
       omega arith,
       (let after-loop-test = c .before .before .before in let after-loop = after-loop-test .before in

@@ -1,4 +1,4 @@
-use Rattle.laws.proofs.Basics.{_-_, _≡_, refl, _∙_, List, length, arith, needs}
+use Rattle.laws.proofs.Basics.{_-_, _≡_, refl, List, length, arith, needs}
 use Rattle.compiler.proofs.Language.{Label, labelsOf}
 use Rattle.compiler.specs.Labels.{LabelAt, Listed, Marks}
 use Rattle.compiler.proofs.Doubling.{OwnPart, own-begin, own-next, own-end}
@@ -14,9 +14,11 @@ pub doubled-in-spec : {M : Type 1} → Rattle.compiler.proofs.labels.do
 doubled-in-spec =
     tie.close (tie.spec Inv-loop (λ source s from end top seen₀ at₀ r₀ seen at r. end - at) (λ c. (refl, λ y first m. search own-begin))
     (search needs) (λ c κs. omega arith) (λ c. omega arith)
+    -- loop-again
     (λ c. let after-next-item = c .before .before .before .before in let after-loop-test = after-next-item .before in
     let after-loop = after-loop-test .before in let start = after-loop .before .before .before .before in (
       cc,
       λ y first m. own-next _ (start .args .st) (after-loop-test .loop-test .taken) (after-next-item .next-item .ensures)
           (c .before .before .doubled-label .ensures) y first (after-loop .loop .inv .1 y first m),
-    )) (search needs) (λ c. search own-end))
+    ))
+    (search needs) (λ c. search own-end))

@@ -10,11 +10,14 @@ Inv-loop s from end at₀ at = (ls : List Label) → Row (LabelAt s) s end from 
 pub has-default-spec : {M : Type 1} → Rattle.compiler.proofs.labels.has_default.Statement.statement M
 has-default-spec =
     tie.close (tie.spec Inv-loop (λ s from end at₀ at. end - at) (λ c. λ ls r. search among-begin) (search needs) (search needs)
+    -- returns
     (λ c. record {
       by = λ ls r. among-found _ (c .before .before .before .before .before .before .args .end)
           (c .before .before .before .loop-test .taken) (c .before .before .next-item .ensures) (c .before .one-case .ensures) (c .if1 .taken) ls
           (c .before .before .before .before .loop .inv ls r);
-    }) (λ c. omega arith)
+    })
+    (λ c. omega arith)
+    -- loop-again
     (λ c. λ ls r. among-next _ (c .before .before .before .before .before .before .args .end) (c .before .before .before .loop-test .taken)
     (c .before .before .next-item .ensures) (c .before .one-case .ensures) (c .if1 .left) ls (c .before .before .before .before .loop .inv ls r))
     (λ c. record { by = λ ls r. among-end _ _ (c .loop-test .left) ls (c .before .loop .inv ls r) }))

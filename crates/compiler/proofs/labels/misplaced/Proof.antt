@@ -10,5 +10,7 @@ pub misplaced-spec : {M : Type 1} → Rattle.compiler.proofs.labels.mis
 misplaced-spec =
     tie.close (tie.spec Inv-loop (λ source s from end top at₀ r₀ at r. end - at) (λ c. λ y. search misplaced-begin) (search needs)
     (λ c κs. omega arith) (λ c. omega arith)
+    -- loop-again
     (λ c. λ y. misplaced-next _ (c .before .before .before .before .before .before .args .st) (c .before .before .loop-test .taken)
-    (c .before .next-item .ensures) (c .misplaced-label .ensures) y (c .before .before .before .loop .inv y)) (λ c. search misplaced-end))
+    (c .before .next-item .ensures) (c .misplaced-label .ensures) y (c .before .before .before .loop .inv y))
+    (λ c. search misplaced-end))

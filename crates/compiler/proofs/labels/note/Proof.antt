@@ -8,8 +8,9 @@ note-spec =
     tie.close (tie.spec (search needs) (λ c. omega (arith, c .before .before .slice-known .given (c .before .before .before .args .i / 8)))
     (search needs) (search needs)
     (λ c. omega (arith, c .before .before .before .before .slice-known .given (c .before .before .before .before .before .args .i / 8)))
-    (λ c. let fits = flag-fits (c .before .before .before .before .before .args .seen .now)
-    (c .before .before .before .before .before .args .i) refl (c .before .power .ensures .0) (c .if2 .taken)
-    (omega (arith, c .before .before .before .before .slice-known .given (c .before .before .before .before .before .args .i / 8))) in
-    omega arith) (search needs) (search needs) (λ c. search note-first) (search needs)
+    -- cast-seen
+    (λ c. let fits = flag-fits (c .before .before .before .before .before .args .seen .now) (c .before .before .before .before .before .args .i) refl
+    (c .before .power .ensures .0) (c .if2 .taken)
+    (omega (arith, c .before .before .before .before .slice-known .given (c .before .before .before .before .before .args .i / 8))) in omega arith)
+    (search needs) (search needs) (λ c. search note-first) (search needs)
     (λ c. note-again refl (c .before .before .power .ensures .0) (c .before .if2 .left) (c .wrong .ensures)) (λ c. search note-none))

@@ -12,21 +12,26 @@ function-spec =
     tie.close (tie.spec (search needs) (search needs) (search needs) (search needs) (λ c κs. (room (search) .0, omega arith, omega arith))
     (λ c. omega (arith, room (search))) (λ c κs. search function-names) (search needs) (search needs) (λ c. omega (arith, room (search)))
     (λ c. omega (arith, room (search))) (λ c. omega (arith, room (search))) (λ c. omega (arith, room (search)))
+    -- body-requires
     (λ c κs. let after-reached = c .before .before .before .before in let after-declare = after-reached .before .before .before in
     let after-push = after-declare .before .before .before .before .before in let after-mark = after-push .before .before .before .before in
     let after-node-at = after-mark .before .before .before .before .before in let start = after-node-at .before .before .before .before .before in
     function-body _ (after-node-at .node-at .ensures) (after-push .push .ensures) _ (after-mark .mark .ensures) (after-declare .declare .ensures)
-    (after-reached .reached .ensures) (start .pre)) (search needs)
+    (after-reached .reached .ensures) (start .pre))
+    (search needs)
+    -- same-length
     (λ c. let after-body = c .before .before .before .before .before .before .before .before in
     let after-declare = after-body .before .before .before .before .before .before .before .before in
-    let after-push = after-declare .before .before .before .before .before in after-body .body .kept .1 .0 ∙ after-declare .declare .kept .1 .0
-    ∙ after-push .push .kept .0)
+    let after-push = after-declare .before .before .before .before .before in
+    after-body .body .kept .1 .0 ∙ after-declare .declare .kept .1 .0 ∙ after-push .push .kept .0)
+    -- same-length-2
     (λ c. c .before .before .put .kept .0 ∙ c .before .before .before .before .before .before .before .before .body .kept .1 .1 .1 .0
     ∙ c .before .before .before .before .before .before .before .before .before .before .before .before .before .before .before .before .before
     .before .before .before .before .before .before .before .before .mark .kept .0)
+    -- returns
     (λ c. let after-body = c .before .before .before .before .before .before .before .before in
     let after-reached = after-body .before .before .before .before .before in let after-declare = after-reached .before .before .before in
     let after-push = after-declare .before .before .before .before .before in let after-mark = after-push .before .before .before .before in
-    let after-node-at = after-mark .before .before .before .before .before in function-gave _ (after-node-at .node-at .ensures)
-    (after-push .push .ensures) _ (after-mark .mark .ensures) (after-declare .declare .ensures) (after-reached .reached .ensures)
-    (after-body .body .ensures) (c .before .before .put .ensures)))
+    let after-node-at = after-mark .before .before .before .before .before in
+    function-gave _ (after-node-at .node-at .ensures) (after-push .push .ensures) _ (after-mark .mark .ensures) (after-declare .declare .ensures)
+    (after-reached .reached .ensures) (after-body .body .ensures) (c .before .before .put .ensures)))

@@ -1,4 +1,4 @@
-use Rattle.laws.proofs.Basics.{_-_, _≡_, refl, _∙_, length, arith, needs}
+use Rattle.laws.proofs.Basics.{_-_, _≡_, refl, length, arith, needs}
 use Rattle.compiler.specs.Groups.{ReadyGroup}
 use Rattle.compiler.proofs.GroupNameLaws.{GroupPart, names-begin, names-fit, names-next, names-end, Fits}
 use Rattle.compiler.proofs.outer.group_names.Tie as tie
@@ -22,6 +22,7 @@ group-names-spec =
     tie.close (tie.spec Inv-loop μ-loop (λ c. (refl, refl, λ y. search names-begin)) (λ c. omega arith) (search needs) (λ c. omega arith)
     (λ c. omega arith) (λ c κs. omega (arith, fit (search))) (λ c. omega arith) (search needs) (λ c κs. search (needs, names-fit)) (λ c. omega arith)
     (λ c κs. let w = fit (search) in (omega arith, omega arith, w .few, w .name)) (λ c. omega (arith, fit (search))) (λ c. omega arith)
+    -- loop-again
     (λ c. let after-enter = c .before .before .before .before in let after-name-fault = after-enter .before .before .before in
     let after-entry2 = after-name-fault .before .before in let after-lookup = after-entry2 .before .before in
     let after-entry = after-lookup .before .before in let after-loop-test = after-entry .before .before in
@@ -31,5 +32,5 @@ group-names-spec =
       λ y. names-next (start .args .source .now) _ (after-loop-test .loop-test .taken) (after-entry .entry .ensures .0) refl
           (after-lookup .lookup .ensures .0) (after-entry2 .entry2 .ensures .0) (after-name-fault .name-fault .ensures) (after-enter .enter .ensures)
           y (after-loop .loop .inv .2 y),
-    )) (λ c. c .before .loop .inv .0) (λ c. c .before .loop .inv .1)
-    (λ c. names-end _ _ (c .loop-test .left) (c .before .loop .inv .2)))
+    ))
+    (λ c. c .before .loop .inv .0) (λ c. c .before .loop .inv .1) (λ c. names-end _ _ (c .loop-test .left) (c .before .loop .inv .2)))

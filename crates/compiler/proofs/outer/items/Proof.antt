@@ -1,4 +1,4 @@
-use Rattle.laws.proofs.Basics.{_+_, _-_, _*_, _≤_, _≡_, refl, _∙_, length, arith, needs}
+use Rattle.laws.proofs.Basics.{_+_, _-_, _*_, _≤_, _≡_, refl, length, arith, needs}
 use Rattle.compiler.specs.Items.{ReadyItems}
 use Rattle.compiler.proofs.ItemLaws.{ItemsPart, items-begin, items-fit, items-next, items-end, items-out, code-small, Fits}
 use Rattle.compiler.proofs.outer.items.Tie as tie
@@ -28,11 +28,13 @@ items-spec =
     (λ c. omega (arith, fit (search))) (λ c. omega arith) (λ c κs. omega (arith, fit (search))) (λ c. omega arith) (search needs) (search needs)
     (λ c _. c .before .entry2 .ensures .1) (λ c. omega (arith, fit (search))) (λ c. omega (arith, fit (search))) (λ c. omega (arith, fit (search)))
     (search needs)
+    -- push-name-requires
     (λ c κs. let after-item-constant = c .before .before .before .before .before .before .before .before in
     let after-loop-test = after-item-constant .before .before .before .before in let w = fit after-loop-test in
     let v = code-small (after-loop-test .before .before .before .before .args .global) (after-item-constant .item-constant .result .word)
-    (after-item-constant .item-constant .ensures .low) in (omega arith, omega arith, omega arith, w .name)) (λ c. omega (arith, fit (search)))
-    (λ c. omega arith)
+    (after-item-constant .item-constant .ensures .low) in (omega arith, omega arith, omega arith, w .name))
+    (λ c. omega (arith, fit (search))) (λ c. omega arith)
+    -- loop-again
     (λ c. let after-meaning = c .before .before .before in let after-again = after-meaning .before .before in
     let after-blame = after-again .before in let after-entry2 = after-blame .before in let after-in-block = after-entry2 .before .before in
     let after-item-constant = after-in-block .before .before in let after-entry = after-item-constant .before .before in
@@ -43,4 +45,5 @@ items-spec =
           (after-item-constant .item-constant .ensures) (after-in-block .in-block .ensures) (after-entry2 .entry2 .ensures .0)
           (after-blame .blame .ensures) (after-again .again .ensures) (c .before .before .push-name .ensures) (after-meaning .meaning .ensures) y
           (after-loop .loop .inv .1 y),
-    )) (λ c. omega (arith, out (search))) (λ c. omega (arith, out (search))) (search needs) (λ c. search items-end))
+    ))
+    (λ c. omega (arith, out (search))) (λ c. omega (arith, out (search))) (search needs) (λ c. search items-end))

@@ -7,5 +7,7 @@ pub functions-spec : {M : Type 1} → Rattle.compiler.proofs.program.fu
 functions-spec =
     tie.close (tie.spec (search needs) (λ c κs. search ready-group) (search needs) (search needs) (λ c κs. (search ready-fs, omega arith))
     (λ c. let counted : tie.After-group-count = search in let start : tie.Start = search in omega arith) (search needs) (search needs) (search needs)
-    (λ c. let named : tie.After-group-names = search in let counted : tie.After-group-count = search in gave-group (counted .group-count .ensures .0)
-    (named .group-names .ensures) (c .before .before .before .before .before .before .before .level .ensures) (search)))
+    -- returns
+    (λ c. let named : tie.After-group-names = search in let counted : tie.After-group-count = search in
+    gave-group (counted .group-count .ensures .0) (named .group-names .ensures)
+    (c .before .before .before .before .before .before .before .level .ensures) (search)))

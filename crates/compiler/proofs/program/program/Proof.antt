@@ -14,10 +14,14 @@ program-spec =
     tie.close (tie.spec Inv-loop (λ source s₀ table₀ base end left strings text₀ at₀ l₀ s table text at l. end - at)
     (λ c. (refl, refl, refl, λ y. search program-begin)) (λ c. omega arith) (search needs) (λ c. omega arith) (λ c. omega arith) (search needs)
     (λ c. omega arith)
+    -- declaration-requires
     (λ c κs. let after-entry2 = c .before .before .before in let after-entry = after-entry2 .before .before in
     let after-loop-test = after-entry .before .before in let after-loop = after-loop-test .before in
-    let start = after-loop .before .before .before .before .before in program-ready _ _ _ (after-loop-test .loop-test .taken)
-    (after-entry .entry .ensures .0) refl (after-entry2 .entry2 .ensures .0) (start .pre) (after-loop .loop .inv .3 (start .pre))) (λ c. omega arith)
+    let start = after-loop .before .before .before .before .before in
+    program-ready _ _ _ (after-loop-test .loop-test .taken) (after-entry .entry .ensures .0) refl (after-entry2 .entry2 .ensures .0) (start .pre)
+    (after-loop .loop .inv .3 (start .pre)))
+    (λ c. omega arith)
+    -- loop-again
     (λ c. let after-declaration = c .before .before .before .before .before .before in
     let after-entry2 = after-declaration .before .before .before .before in let after-entry = after-entry2 .before .before in
     let after-loop-test = after-entry .before .before in let after-loop = after-loop-test .before in (
@@ -27,4 +31,5 @@ program-spec =
       λ y. program-next _ _ _
           (after-loop-test .loop-test .taken) (after-entry .entry .ensures .0) refl (after-entry2 .entry2 .ensures .0) y (after-loop .loop .inv .3 y)
           (after-declaration .declaration .ensures),
-    )) (search needs) (search needs) (search needs) (λ c. search program-end))
+    ))
+    (search needs) (search needs) (search needs) (λ c. search program-end))

@@ -15,19 +15,23 @@ in-block-spec =
     (λ c. record { by = λ sc h. absurd (omega (arith, c .if1 .taken, shows-low h)) }) (search needs) (search needs) (search needs) (search needs)
     (λ c _. (c .entry2 .ensures .1, c .before .entry .ensures .1)) (λ c. (omega arith, λ sc h. left-all _ sc h)) (λ c. omega arith)
     (λ c κs. omega arith)
+    -- returns-2
     (λ c. let after-loop = c .before .before .before in let start = after-loop .before .before .before .before .before .before .before in
     record {
       by = λ sc h. let l = after-loop .loop .inv .1 sc h in sym (ap found (l .same ∙ in-open _ _ (start .args .leaf) _
           (c .before .before .loop-test .taken) (c .before .stacked .ensures .0) (l .shows) (c .if2 .taken)));
-    }) (λ c κs. omega arith)
-    (λ c κs. search needs)
+    })
+    (λ c κs. omega arith) (λ c κs. search needs)
+    -- returns-3
     (λ c. let after-if2 = c .before .before .before in let after-stacked = after-if2 .before in let after-loop-test = after-stacked .before in
     let after-loop = after-loop-test .before in let after-entry2 = after-loop .before .before in let after-entry = after-entry2 .before in
     record {
       by = λ sc h. let l = after-loop .loop .inv .1 sc h in in-found _ _ _ _ (after-loop-test .loop-test .taken)
           (after-stacked .stacked .ensures .0) (after-if2 .if2 .left) (c .before .before .stacked2 .ensures .0) (after-entry .entry .ensures .0)
           (after-entry2 .entry2 .ensures .0) (l .shows) (sym (c .if3 .taken) ∙ c .before .spelt .ensures) ∙ ap found (sym (l .same));
-    }) (λ c. omega arith)
+    })
+    (λ c. omega arith)
+    -- loop-again
     (λ c. (
       omega arith,
       (let after-if2 = c .before .before .before in let after-stacked = after-if2 .before in

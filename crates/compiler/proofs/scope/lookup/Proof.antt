@@ -22,6 +22,7 @@ lookup-spec =
     (λ c. (record { by = λ sc h. absurd (omega (arith, c .if1 .taken, shows-low h)) }, omega arith)) (search needs) (search needs) (search needs)
     (search needs) (λ c _. (c .entry2 .ensures .1, c .before .entry .ensures .1)) (λ c. (omega arith, λ sc h. left-all _ sc h))
     (λ c. (omega arith, c .search .inv .0, c .search .inv .1))
+    -- returns-2
     (λ c. (
       (let start = c .before .before .before .before .before .before .before .before .before in
           record {
@@ -29,13 +30,16 @@ lookup-spec =
                 (c .if2 .taken)));
           }),
       omega arith,
-    )) (λ c. omega arith) (λ c κs. omega arith) (λ c. omega arith)
+    ))
+    (λ c. omega arith) (λ c κs. omega arith) (λ c. omega arith)
+    -- search-again
     (λ c. (
       omega arith,
       (let after-loop = c .before .before .before in λ sc h. let l = after-loop .loop .inv .2 sc h in
           left-then _ sc l (at-open _ _ _ _ (c .before .before .if2 .left) (c .before .stacked .ensures .0) (l .shows) (c .if3 .taken))),
     ))
     (λ c κs. omega arith) (λ c κs. search needs) (λ c. omega arith)
+    -- loop-again
     (λ c. (
       omega arith,
       omega arith,
@@ -45,7 +49,9 @@ lookup-spec =
           λ sc h. let l = after-loop .loop .inv .2 sc h in left-then _ sc l (at-other _ _ (start .args .leaf) _ (after-if2 .if2 .left)
           (after-stacked .stacked .ensures .0) (after-if3 .if3 .left) (c .before .before .stacked2 .ensures .0) (after-entry .entry .ensures .0)
           (after-entry2 .entry2 .ensures .0) (l .shows) (sym (c .if4 .left) ∙ c .before .spelt .ensures))),
-    )) (λ c. omega arith) (λ c κs. omega arith)
+    ))
+    (λ c. omega arith) (λ c κs. omega arith)
+    -- returns-3
     (λ c. let after-stacked2 = c .before .before .before in let after-if3 = after-stacked2 .before in let after-stacked = after-if3 .before in
     let after-if2 = after-stacked .before in let after-loop = after-if2 .before in let after-entry2 = after-loop .before .before .before in
     let after-entry = after-entry2 .before in let start = after-entry .before .before .before .before in (

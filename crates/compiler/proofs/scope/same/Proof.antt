@@ -11,8 +11,12 @@ pub same-spec : {M : Type 1} → Rattle.compiler.proofs.scope.same.Stat
 same-spec =
     tie.close (tie.spec Inv-loop (λ source p q n i₀ i. i) (λ c. (omega arith, refl)) (λ c. omega arith) (λ c. omega arith) (λ c. omega arith)
     (λ c. omega arith) (λ c. omega arith)
-    (λ c. (let after-loop = c .before .before .before .before in let start = after-loop .before in differs (start .args .source .now) (start .args .p)
-    (start .args .q) (after-loop .loop .i) (omega arith) (omega arith) (omega arith) (c .if1 .taken) ∙ sym (search needs))) (λ c. omega arith)
+    -- returns
+    (λ c. (let after-loop = c .before .before .before .before in let start = after-loop .before in
+    differs (start .args .source .now) (start .args .p) (start .args .q) (after-loop .loop .i) (omega arith) (omega arith) (omega arith)
+    (c .if1 .taken) ∙ sym (search needs)))
+    (λ c. omega arith)
+    -- loop-again
     (λ c. (
       omega arith,
       (let after-loop = c .before .before .before .before in let start = after-loop .before in after-loop .loop .inv .1 ∙ one-fewer

@@ -1,4 +1,4 @@
-use Rattle.laws.proofs.Basics.{_+_, _-_, _*_, _^_, _<_, _≤_, _≡_, refl, _∙_, length, arith, needs}
+use Rattle.laws.proofs.Basics.{_+_, _-_, _*_, _^_, _<_, _≤_, _≡_, refl, length, arith, needs}
 use Rattle.compiler.proofs.Vocabulary.{nameAt}
 use Rattle.language.specs.Fine.{FineName}
 use Rattle.compiler.specs.Commands.{ReadyNames}
@@ -26,11 +26,12 @@ declare-spec =
     (λ c. omega (arith, fit (search))) (λ c. omega (arith, fit (search))) (λ c. omega (arith, fit (search))) (λ c. omega (arith, fit (search)))
     (λ c κs. let w = fit (search) in (omega arith, omega arith, omega arith, w .4)) (λ c. omega (arith, fit (search))) (λ c. omega arith)
     (λ c. omega arith)
+    -- loop-again
     (λ c. let after-again = c .before .before .before .before in let after-entry = after-again .before in
     let after-in-block = after-entry .before .before in let after-loop-test = after-in-block .before .before in
     let after-loop = after-loop-test .before in (
       cc,
       λ y. names-next _ _ (after-loop-test .loop-test .taken) (after-in-block .in-block .ensures) (after-entry .entry .ensures .0)
           (after-again .again .ensures) (c .before .before .push-name .ensures) refl y (after-loop .loop .inv .1 y),
-    )) (search needs)
-    (λ c. names-end _ _ (c .loop-test .left) (c .before .loop .inv .1)))
+    ))
+    (search needs) (λ c. names-end _ _ (c .loop-test .left) (c .before .loop .inv .1)))

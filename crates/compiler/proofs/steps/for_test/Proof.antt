@@ -7,11 +7,14 @@ pub for-test-spec : {M : Type 1} → Rattle.compiler.proofs.steps.for_t
 for-test-spec =
     tie.close (tie.spec (search needs) (search needs) (search needs) (search needs) (search needs) (search needs)
     (λ c. let start : tie.Start = search in omega arith) (search needs)
+    -- same-length
     (λ c. let after-put3 = c .before .before .before .before .before .before in let after-put2 = after-put3 .before .before .before .before .before in
     let after-put = after-put2 .before .before .before .before in let after-mark = after-put .before .before .before .before in
     c .before .before .put-to .kept .0 ∙ after-put3 .put3 .kept .0 ∙ after-put2 .put2 .kept .0 ∙ after-put .put .kept .0 ∙ after-mark .mark .kept .0)
+    -- returns
     (λ c. let after-put3 = c .before .before .before .before .before .before in let after-limit-act = after-put3 .before in
     let after-put2 = after-limit-act .before .before .before .before in let after-put = after-put2 .before .before .before .before in
-    let after-mark = after-put .before .before .before .before in emits-then (after-mark .mark .ensures) (emits-then (after-put .put .ensures)
+    let after-mark = after-put .before .before .before .before in
+    emits-then (after-mark .mark .ensures) (emits-then (after-put .put .ensures)
     (emits-then (after-put2 .put2 .ensures) (emits-then (act-is (after-limit-act .limit-act .ensures) (after-put3 .put3 .ensures))
     (c .before .before .put-to .ensures))))))

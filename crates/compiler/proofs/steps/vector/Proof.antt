@@ -9,9 +9,10 @@ vector-spec =
     (λ c. let j : tie.After-judge-most = search in let y : tie.Start = search in omega arith)
     (λ c. let j : tie.After-judge-most = search in let y : tie.Start = search in omega arith)
     (λ c. let j : tie.After-judge-most = search in let y : tie.Start = search in omega arith) (search needs) (search needs)
+    -- returns
     (λ c. let after-vector-code = c .before .before .before .before .before in
     let after-declare = after-vector-code .before .before .before .before in let after-blame = after-declare .before .before .before in
     let after-judge-most = after-blame .before in let after-node-at = after-judge-most .before .before in
-    let start = after-node-at .before .before .before .before .before in vector-gave _ (after-node-at .node-at .ensures) (start .pre .1 .is)
-    (start .args .source .now) refl (after-judge-most .judge-most .ensures) (after-blame .blame .ensures) (after-declare .declare .ensures)
-    (after-vector-code .vector-code .ensures) refl))
+    let start = after-node-at .before .before .before .before .before in
+    vector-gave _ (after-node-at .node-at .ensures) (start .pre .1 .is) (start .args .source .now) refl (after-judge-most .judge-most .ensures)
+    (after-blame .blame .ensures) (after-declare .declare .ensures) (after-vector-code .vector-code .ensures) refl))

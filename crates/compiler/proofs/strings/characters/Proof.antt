@@ -11,10 +11,12 @@ pub characters-spec : {M : Type 1} → Rattle.compiler.proofs.strings.c
 characters-spec =
     tie.close (tie.spec Inv-loop (λ source from text₀ at i₀ x₀ text i x. length source - i) (λ _. (refl, spelling-begin)) (search needs)
     (search needs) (search needs)
+    -- add-i
     (λ c. let source = c .before .before .before .before .before .before .before .before .before .before .before .args .source .now in
     let i = c .before .before .before .before .before .before .before .before .loop .i in
     let one = when-is _ (c .before .before .before .before .before .before .before .character-at .ensures)
     (c .before .before .before .before .before .one .given .1) in omega (arith, is-inside 34 source i one))
+    -- loop-less
     (λ c. let source = c .before .before .before .before .before .before .before .before .before .before .before .args .source .now in
     let i = c .before .before .before .before .before .before .before .before .loop .i in
     let one = when-is _ (c .before .before .before .before .before .before .before .character-at .ensures)

@@ -12,6 +12,7 @@ strings-spec =
     (search needs) (search needs) (search needs) (search needs) (search needs) (search needs) (search needs)
     (λ c. let entry = c .before .before .before .before .before .before .entry in omega (arith, oneIf-small (entry .result))) (search needs)
     (search needs)
+    -- loop-again
     (λ c. let entry = c .before .before .before .before .before .before .entry in
     let loop = c .before .before .before .before .before .before .before .before .loop in (
       search needs,
@@ -20,4 +21,5 @@ strings-spec =
           (c .before .before .before .before .before .before .before .loop-test .taken) (entry .ensures .0)
           (c .before .before .before .before .before .entry2 .ensures .0) (c .one-if .ensures) (c .before .before .before .string-symbol .ensures)
           (loop .inv .2),
-    )) (search needs) (λ c. search listing-end))
+    ))
+    (search needs) (λ c. search listing-end))

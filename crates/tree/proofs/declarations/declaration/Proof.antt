@@ -19,9 +19,11 @@ declaration-spec =
       leaves-less (c .before .before .item-list .ensures .0) refl,
       λ src l h. declaration-globals src
           (c .before .before .before .before .match .keys1) (c .before .before .item-list .ensures .1 src l),
-    )) (search needs)
+    ))
+    (search needs)
     (λ c. (
       leaves-less (c .before .before .item-list2 .ensures .0) refl,
       λ src l h. declaration-manifests src
           (c .before .before .before .before .match .keys2) (c .before .before .item-list2 .ensures .1 src l),
-    )) (search needs) returns-3)
+    ))
+    (search needs) returns-3)

@@ -21,6 +21,7 @@ declarations-spec =
     tie.close (tie.spec Inv-loop μ-loop (λ c. so-begins (c .before .pre) before-first) (search needs) (λ _ _. tt)
     (λ c κs. pair (search needs) (declaration-positive _ (c .before .before .is-declaration .ensures) (c .before .if1 .taken))) (search needs)
     (λ c. omega arith)
+    -- loop-again
     (λ c. let declared = c .before .before in let if1 = declared .before .before in let is-declaration = if1 .before in
     let kind-here = is-declaration .before in let in-loop = kind-here .before .before .before in many-turns _ _ _ _ before-next (in-loop .loop .inv)
     (kind-here .kind-here .ensures) (sym (is-declaration .is-declaration .ensures) ∙ if1 .if1 .taken) (
@@ -28,8 +29,10 @@ declarations-spec =
       λ src l k.
           declared .declared .ensures .1 src l k (sym (is-declaration .is-declaration .ensures) ∙ if1 .if1 .taken),
     ) (declared .declared .kept .0) (omega
-    arith)) (search needs)
-    (λ c. let is-declaration = c .before in let kind-here = is-declaration .before in let in-loop = kind-here .before .before .before in many-ends _ _
-    _ _ before-last (wordless no-program-words) refl (in-loop .loop .inv) (kind-here .kind-here .ensures) (sym
-    (is-declaration .is-declaration .ensures) ∙ c .if1 .left)) (search needs)
-    (λ c. many-spent _ _ _ _ before-last (wordless no-program-words) refl (c .before .loop .inv) (omega arith)))
+    arith))
+    (search needs)
+    -- returns
+    (λ c. let is-declaration = c .before in let kind-here = is-declaration .before in let in-loop = kind-here .before .before .before in
+    many-ends _ _ _ _ before-last (wordless no-program-words) refl (in-loop .loop .inv) (kind-here .kind-here .ensures)
+    (sym (is-declaration .is-declaration .ensures) ∙ c .if1 .left))
+    (search needs) (λ c. many-spent _ _ _ _ before-last (wordless no-program-words) refl (c .before .loop .inv) (omega arith)))

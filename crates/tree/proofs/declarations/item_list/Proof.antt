@@ -9,9 +9,13 @@ pub item-list-spec : {M : Type 1} → Rattle.tree.proofs.declarations.i
 item-list-spec =
     tie.close (tie.spec (search needs)
     (λ c κs. pair (ready-leaves (c .before .expect .ensures .0) refl refl (c .before .before .before .before .pre .0)) (omega arith))
-    (λ c κs. let one-item = c .before .before .before in let expect = one-item .before .before in let start = expect .before .before .before in pair
-    (ready-leaves (one-item .one-item .ensures .0) (one-item .one-item .kept .0) refl (ready-leaves (expect .expect .ensures .0) refl refl
-    (start .pre .0))) (omega arith)) (search needs)
+    -- further-items-requires
+    (λ c κs. let one-item = c .before .before .before in let expect = one-item .before .before in let start = expect .before .before .before in
+    pair (ready-leaves (one-item .one-item .ensures .0) (one-item .one-item .kept .0) refl
+    (ready-leaves (expect .expect .ensures .0) refl refl (start .pre .0))) (omega arith))
+    (search needs)
+    -- returns
     (λ c. let further-items = c .before .before in let one-item = further-items .before .before .before .before in
-    let expect = one-item .before .before in leaves ((λ src l. item-list-read src _ (l .count)) from expect .expect .ensures with
-    one-item .one-item .ensures with further-items .further-items .ensures) refl))
+    let expect = one-item .before .before in leaves
+    ((λ src l. item-list-read src _ (l .count)) from expect .expect .ensures with one-item .one-item .ensures with
+    further-items .further-items .ensures) refl))

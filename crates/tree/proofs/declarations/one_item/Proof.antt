@@ -30,8 +30,9 @@ set-size-requires c κs =
 pub one-item-spec : {M : Type 1} → Rattle.tree.proofs.declarations.one_item.Statement.statement M
 one-item-spec =
     tie.close (tie.spec (search needs) (search needs) a-name-requires expect-requires constant-requires set-size-requires (search needs)
+    -- returns
     (λ c. let set-size = c .before .before in let constant = set-size .before .before .before .before in let expect = constant .before .before in
     let a-name = expect .before .before .before .before in let begin-item = a-name .before .before .before .before in
-    let free-of = begin-item .before .before in let start = free-of .before .before .before in leaves ((λ src l. item-here src _ _
-    (free-of .free-of .ensures) (low (start .pre .0))) writing begin-item .begin-item .ensures with a-name .a-name .ensures with
-    expect .expect .ensures with constant .constant .ensures setting set-size .set-size .ensures) refl))
+    let free-of = begin-item .before .before in let start = free-of .before .before .before in
+    leaves ((λ src l. item-here src _ _ (free-of .free-of .ensures) (low (start .pre .0))) writing begin-item .begin-item .ensures with
+    a-name .a-name .ensures with expect .expect .ensures with constant .constant .ensures setting set-size .set-size .ensures) refl))

@@ -40,21 +40,30 @@ applied-ok t =
     (λ c. search needs) (λ c. search primary-gave) (λ c κs. search needs) (λ c κs. search needs) (λ c κs. search needs) (λ c κs. search needs)
     (λ c κs. search needs)
     (λ c κs. let start = applied-start t (search) in let r = applied-read t (search) in both (omega (arith, start .pre .0)) (search (index-left r)))
-    (λ c κs. let start = applied-start t (search) in both (omega (arith, start .pre .0)) (index-right (applied-read t (search)) (search) _
-    (c .before .before .before .before .before .before .applied .ensures) (start .pre .1))) (λ c. search needs) (λ c. search needs)
-    (λ c. let after-indexed = c .before .before .before .before in index-gave (applied-read t (search)) (search) _
-    (after-indexed .before .before .before .before .before .before .before .applied .ensures) (after-indexed .indexed .ensures)) (λ c κs. omega arith)
+    -- indexed-requires
+    (λ c κs. let start = applied-start t (search) in
+    both (omega (arith, start .pre .0)) (index-right (applied-read t (search)) (search) _
+    (c .before .before .before .before .before .before .applied .ensures) (start .pre .1)))
+    (λ c. search needs) (λ c. search needs)
+    -- returns-2
+    (λ c. let after-indexed = c .before .before .before .before in
+    index-gave (applied-read t (search)) (search) _ (after-indexed .before .before .before .before .before .before .before .applied .ensures)
+    (after-indexed .indexed .ensures))
+    (λ c κs. omega arith)
     (λ c κs. let start = applied-start t (search) in both (omega (arith, start .pre .0)) (search (call-args (applied-read t (search)))))
     (λ c. let y = applied-start t (search) .pre .1 .ready in omega (arith, applied-few t (search)))
     (λ c κs. let y = applied-start t (search) .pre .1 .ready in omega (arith, applied-few t (search)))
+    -- applied-requires-2
     (λ c κs. let start = applied-start t (search) in let r = applied-read t (search) in
-    let after-passed = c .before .before .before .before .before .before .before in both (omega (arith, start .pre .0, left-at))
+    let after-passed = c .before .before .before .before .before .before .before in
+    both (omega (arith, start .pre .0, left-at))
     (suffixes-ready-at (c .raised .ensures) (call-callee r (search) _ (search) (after-passed .passed .ensures) (start .pre .1))))
     (λ c κs. search needs) (λ c. search needs) (λ c. search needs)
+    -- returns-3
     (λ c. let after-applied2 = c .before .before .before .before .before .before .before .before in let after-raised = after-applied2 .before in
-    let after-passed = after-raised .before .before .before .before .before .before .before in call-gave (applied-read t (search)) (search) _ (search)
-    (after-passed .passed .ensures) (suffixes-gave-at (after-raised .raised .ensures) (after-applied2 .applied2 .ensures))
-    (c .before .before .put .ensures))
+    let after-passed = after-raised .before .before .before .before .before .before .before in
+    call-gave (applied-read t (search)) (search) _ (search) (after-passed .passed .ensures)
+    (suffixes-gave-at (after-raised .raised .ensures) (after-applied2 .applied2 .ensures)) (c .before .before .put .ensures))
 
 abbrev args-cs : ℕ → cycle.Lts-args.Claims
 args-cs t =
@@ -71,19 +80,26 @@ args-ok t =
     (λ c. search (needs, args-begin)) (λ c. omega arith) (λ c κs. search needs) (λ c. omega (arith, c .entry .ensures .1))
     (λ c κs. let height = c .before .before .before .before .before .loop .inv .2
     (c .before .before .before .before .before .before .before .before .before .pre .1) .height in omega arith)
+    -- expr-requires
     (λ c κs. let after-entry = c .before .before .before in let after-loop-test = after-entry .before .before in
     let after-loop = after-loop-test .before in let start = after-loop .before .before .before .before in
-    both (omega (arith, start .pre .0, left-at)) (ready-at (c .raised .ensures) (args-part _ _ _ (after-loop-test .loop-test .taken)
-    (after-entry .entry .ensures .0) refl (start .pre .1) (after-loop .loop .inv .2 (start .pre .1)))))
+    both (omega (arith, start .pre .0, left-at))
+    (ready-at (c .raised .ensures) (args-part _ _ _ (after-loop-test .loop-test .taken) (after-entry .entry .ensures .0) refl (start .pre .1)
+    (after-loop .loop .inv .2 (start .pre .1)))))
+    -- add-keep
     (λ c. let after-loop = c .before .before .before .before .before .before .before .before .before .before .before .before .before in
     let start = after-loop .before .before .before .before in
     omega (arith, after-loop .loop .inv .2 (start .pre .1) .height, start .pre .1 .ready .height))
+    -- keep-requires
     (λ c κs. let after-loop = c .before .before .before .before .before .before .before .before .before .before .before .before .before in
     let start = after-loop .before .before .before .before in
     omega (arith, after-loop .loop .inv .2 (start .pre .1) .height, start .pre .1 .ready .height))
-    (λ c. let after-loop = c .before .before .before .before .before .before .before .before .before .before .before .before .before .before
-    .before .before in let start = after-loop .before .before .before .before in
-    omega (arith, after-loop .loop .inv .2 (start .pre .1) .height, start .pre .1 .ready .height)) (λ c. omega arith)
+    -- add-k
+    (λ c. let after-loop = c .before .before .before .before .before .before .before .before .before .before .before .before .before .before .before
+    .before in let start = after-loop .before .before .before .before in
+    omega (arith, after-loop .loop .inv .2 (start .pre .1) .height, start .pre .1 .ready .height))
+    (λ c. omega arith)
+    -- loop-again
     (λ c. let after-expr = c .before .before .before .before .before .before .before .before .before in
     let after-raised = after-expr .before in let after-entry = after-raised .before .before .before in
     let after-loop-test = after-entry .before .before in let after-loop = after-loop-test .before in (
@@ -114,6 +130,7 @@ passed-cs t = three (steps.reached.Reads.Asked, steps.reached.Reads.Learnt) (ste
 pub passed-ok : {M : Type 1} (t : ℕ) → cycle.Lts-passed.Closed (passed-cs t) (at passed t) (rank passed .post) M
 passed-ok t =
     cycle.Lts-passed.spec (passed-cs t) (at passed t) (rank passed .post) (λ c. omega arith) (λ c κs. search needs) (λ c κs. omega arith)
+    -- args-requires
     (λ c κs. let after-reached = c .before .before .before in let start = after-reached .before .before .before .before .before in
     both (omega (arith, left-at)) (args-ready-at (c .raised .ensures) (args-with (after-reached .reached .ensures .by [] .label) (start .pre .1))))
     (λ c. search needs) (λ c. search needs) (λ c. search (passed-gave, args-gave-at))

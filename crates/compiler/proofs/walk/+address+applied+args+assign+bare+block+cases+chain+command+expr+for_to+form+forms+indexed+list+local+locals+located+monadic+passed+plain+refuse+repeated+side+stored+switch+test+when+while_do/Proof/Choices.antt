@@ -20,20 +20,23 @@ pub when-ok : {M : Type 1} (t : ℕ) → cycle.Lts-when.Closed (when-cs t) (at w
 when-ok t =
     cycle.Lts-when.spec (when-cs t) (at when t) (rank when .post) (λ c κs. search needs) (λ c κs. search needs) (λ c κs. omega arith)
     (λ c κs. search (needs, guard-test)) (λ c κs. search needs) (λ c κs. search needs)
+    -- command-requires
     (λ c κs. let after-put-to = c .before .before .before .before in
-    let after-expr = after-put-to .before .before .before .before .before .before .before in
-    let after-fresh = after-expr .before .before .before in let after-node-at2 = after-fresh .before in
-    let after-node-at = after-node-at2 .before .before in let start = after-node-at .before .before .before .before .before in
+    let after-expr = after-put-to .before .before .before .before .before .before .before in let after-fresh = after-expr .before .before .before in
+    let after-node-at2 = after-fresh .before in let after-node-at = after-node-at2 .before .before in
+    let start = after-node-at .before .before .before .before .before in
     both (omega (arith, start .pre .0)) (guard-body _ _ (after-node-at .node-at .ensures) (after-node-at2 .node-at2 .ensures)
     (start .pre .1 .1 .word) _ (after-fresh .fresh .ensures) (after-expr .expr .ensures) (after-put-to .put-to .ensures) (start .pre .1 .0)))
     (λ c κs. search needs) (λ c. search needs) (λ c. search needs)
+    -- returns
     (λ c. let after-command = c .before .before .before .before .before .before .before .before in
     let after-put-to = after-command .before .before .before .before .before in let after-jump-unless = after-put-to .before in
     let after-expr = after-jump-unless .before .before .before .before .before .before in let after-fresh = after-expr .before .before .before in
     let after-node-at2 = after-fresh .before in let after-node-at = after-node-at2 .before .before in
-    let start = after-node-at .before .before .before .before .before in guard-gave _ _ (after-node-at .node-at .ensures)
-    (after-node-at2 .node-at2 .ensures) (start .pre .1 .1 .word) _ (after-fresh .fresh .ensures) (after-expr .expr .ensures)
-    (after-put-to .put-to .ensures) _ (after-jump-unless .jump-unless .ensures) (after-command .command .ensures) (c .before .before .mark .ensures))
+    let start = after-node-at .before .before .before .before .before in
+    guard-gave _ _ (after-node-at .node-at .ensures) (after-node-at2 .node-at2 .ensures) (start .pre .1 .1 .word) _ (after-fresh .fresh .ensures)
+    (after-expr .expr .ensures) (after-put-to .put-to .ensures) _ (after-jump-unless .jump-unless .ensures) (after-command .command .ensures)
+    (c .before .before .mark .ensures))
 
 abbrev test-cs : ℕ → cycle.Lts-test.Claims
 test-cs t =
@@ -44,20 +47,26 @@ pub test-ok : {M : Type 1} (t : ℕ) → cycle.Lts-test.Closed (test-cs t) (at t
 test-ok t =
     cycle.Lts-test.spec (test-cs t) (at test t) (rank test .post) (λ c κs. search needs) (λ c κs. search needs) (λ c κs. search needs)
     (λ c κs. omega arith)
+    -- expr-requires
     (λ c κs. let after-node-at3 = c .before .before .before in let after-node-at2 = after-node-at3 .before .before in
     let after-node-at = after-node-at2 .before .before in let start = after-node-at .before .before .before .before .before in
     both (omega (arith, start .pre .0)) (test-first _ _ _ (after-node-at .node-at .ensures) (after-node-at2 .node-at2 .ensures)
-    (after-node-at3 .node-at3 .ensures) (start .pre .1 .1 .is) (c .before .before .fresh .ensures) (start .pre .1 .0))) (λ c κs. search needs)
-    (λ c κs. let after-put-to = c .before .before .before .before in
-    let after-expr = after-put-to .before .before .before .before .before .before in let after-fresh = after-expr .before .before .before in
-    let after-node-at3 = after-fresh .before in let after-node-at2 = after-node-at3 .before .before in
-    let after-node-at = after-node-at2 .before .before in let start = after-node-at .before .before .before .before .before in
+    (after-node-at3 .node-at3 .ensures) (start .pre .1 .1 .is) (c .before .before .fresh .ensures) (start .pre .1 .0)))
+    (λ c κs. search needs)
+    -- command-requires
+    (λ c κs. let after-put-to = c .before .before .before .before in let after-expr = after-put-to .before .before .before .before .before .before in
+    let after-fresh = after-expr .before .before .before in let after-node-at3 = after-fresh .before in
+    let after-node-at2 = after-node-at3 .before .before in let after-node-at = after-node-at2 .before .before in
+    let start = after-node-at .before .before .before .before .before in
     both (omega (arith, start .pre .0)) (test-body _ _ _ (after-node-at .node-at .ensures) (after-node-at2 .node-at2 .ensures)
     (after-node-at3 .node-at3 .ensures) (start .pre .1 .1 .is) _ (after-fresh .fresh .ensures) (after-expr .expr .ensures)
     (after-put-to .put-to .ensures) (start .pre .1 .0)))
+    -- add-put-to
     (λ c. let start = c .before .before .before .before .before .before .before .before .before .before .before .before .before .before .before
     .before .before .before .before .before .before .before .before .before .before .before .before .before .before .before in
-    omega (arith, start .pre .1 .0 .label)) (λ c κs. search needs) (λ c κs. search needs)
+    omega (arith, start .pre .1 .0 .label))
+    (λ c κs. search needs) (λ c κs. search needs)
+    -- command-requires-2
     (λ c κs. let after-mark = c .before .before .before .before in let after-put-to2 = after-mark .before .before .before .before in
     let after-command = after-put-to2 .before .before .before .before .before .before .before in
     let after-put-to = after-command .before .before .before .before .before in
@@ -68,21 +77,25 @@ test-ok t =
     (after-node-at3 .node-at3 .ensures) (start .pre .1 .1 .is) _ (after-fresh .fresh .ensures) (after-expr .expr .ensures)
     (after-put-to .put-to .ensures) _ (after-command .command .ensures) (after-put-to2 .put-to2 .ensures) (after-mark .mark .ensures)
     (start .pre .1 .0)))
+    -- add-mark
     (λ c. let start = c .before .before .before .before .before .before .before .before .before .before .before .before .before .before .before
-    .before .before .before .before .before .before .before .before .before .before .before .before .before .before .before .before .before
-    .before .before .before .before .before .before .before .before .before .before .before .before .before .before in
-    omega (arith, start .pre .1 .0 .label)) (λ c κs. search needs)
+    .before .before .before .before .before .before .before .before .before .before .before .before .before .before .before .before .before .before
+    .before .before .before .before .before .before .before .before .before .before .before .before .before in omega (arith, start .pre .1 .0 .label))
+    (λ c κs. search needs)
+    -- same-length
     (λ c. let after-command2 = c .before .before .before .before .before .before .before .before .before in
     let after-command = after-command2 .before .before .before .before .before .before .before .before .before .before .before .before .before .before
     .before .before in let after-expr = after-command .before .before .before .before .before .before .before .before .before .before .before in
     after-command2 .command2 .kept .1 .0 ∙ after-command .command .kept .1 .0 ∙ after-expr .expr .kept .1 .0)
+    -- same-length-2
     (λ c. let after-command2 = c .before .before .before .before .before .before .before .before .before in
     let after-mark = after-command2 .before .before .before .before .before in let after-put-to2 = after-mark .before .before .before .before in
     let after-command = after-put-to2 .before .before .before .before .before .before .before in
     let after-put-to = after-command .before .before .before .before .before in
-    let after-expr = after-put-to .before .before .before .before .before .before in c .before .before .mark2 .kept .0
-    ∙ after-command2 .command2 .kept .1 .1 .1 .0 ∙ after-mark .mark .kept .0 ∙ after-put-to2 .put-to2 .kept .0
+    let after-expr = after-put-to .before .before .before .before .before .before in
+    c .before .before .mark2 .kept .0 ∙ after-command2 .command2 .kept .1 .1 .1 .0 ∙ after-mark .mark .kept .0 ∙ after-put-to2 .put-to2 .kept .0
     ∙ after-command .command .kept .1 .1 .1 .0 ∙ after-put-to .put-to .kept .0 ∙ after-expr .expr .kept .1 .1 .1 .0)
+    -- returns
     (λ c. let after-command2 = c .before .before .before .before .before .before .before .before .before in
     let after-mark = after-command2 .before .before .before .before .before in let after-put-to2 = after-mark .before .before .before .before in
     let after-command = after-put-to2 .before .before .before .before .before .before .before in
@@ -115,37 +128,46 @@ pub switch-ok : {M : Type 1} (t : ℕ) → cycle.Lts-switch.Closed (switch-cs t)
 switch-ok t =
     cycle.Lts-switch.spec (switch-cs t) (at switch t) (rank switch .post) (λ c κs. search needs) (λ c. omega arith)
     (λ c κs. search (needs, switch-value)) (λ c κs. omega arith) (λ c. omega (arith, switch-fit t c)) (λ c κs. omega (arith, switch-fit t c))
+    -- doubled-requires
     (λ c κs. let after-node-at = c .before .before .before .before .before .before .before .before .before .before .before .before in
     let start = after-node-at .before .before .before .before .before in
-    omega (arith, after-node-at .node-at .ensures .inner, start .pre .1 .0 .small)) (λ c. omega (arith, switch-fit t (search)))
+    omega (arith, after-node-at .node-at .ensures .inner, start .pre .1 .0 .small))
+    (λ c. omega (arith, switch-fit t (search)))
+    -- table-requires
     (λ c κs. let after-count = c .before .before .before .before .before .before in
     let after-node-at = after-count .before .before .before .before .before .before .before .before .before .before in
     let start = after-node-at .before .before .before .before .before in let f = switch-fit t after-count in
-    (omega (arith, after-node-at .node-at .ensures .inner, start .pre .1 .0 .small), omega arith, omega arith)) (λ c κs. search needs)
-    (λ c. omega (arith, switch-fit t (search)))
-    (λ c κs. let after-table = c .before .before .before .before .before .before in
-    let after-doubled = after-table .before .before .before .before in let after-fresh = after-doubled .before .before in
-    let after-count = after-fresh .before in let after-expr = after-count .before .before .before .before .before .before in
-    let after-node-at = after-expr .before .before .before .before in let start = after-node-at .before .before .before .before .before in
-    both (omega (arith, start .pre .0)) (both (switch-cases _ (after-node-at .node-at .ensures) (start .pre .1 .1 .is) refl _
-    (after-expr .expr .ensures) (after-count .count .ensures) (after-fresh .fresh .ensures) (after-doubled .doubled .ensures) refl
-    (after-table .table .ensures) (start .pre .1 .0)) (omega (arith, switch-fit t after-count)))) (λ c κs. search needs)
+    (omega (arith, after-node-at .node-at .ensures .inner, start .pre .1 .0 .small), omega arith, omega arith))
+    (λ c κs. search needs) (λ c. omega (arith, switch-fit t (search)))
+    -- cases-requires
+    (λ c κs. let after-table = c .before .before .before .before .before .before in let after-doubled = after-table .before .before .before .before in
+    let after-fresh = after-doubled .before .before in let after-count = after-fresh .before in
+    let after-expr = after-count .before .before .before .before .before .before in let after-node-at = after-expr .before .before .before .before in
+    let start = after-node-at .before .before .before .before .before in
+    both (omega (arith, start .pre .0)) (both
+    (switch-cases _ (after-node-at .node-at .ensures) (start .pre .1 .1 .is) refl _ (after-expr .expr .ensures) (after-count .count .ensures)
+    (after-fresh .fresh .ensures) (after-doubled .doubled .ensures) refl (after-table .table .ensures) (start .pre .1 .0))
+    (omega (arith, switch-fit t after-count))))
+    (λ c κs. search needs)
+    -- same-length
     (λ c. c .before .before .before .before .before .before .before .before .cases .kept .1 .0
     ∙ c .before .before .before .before .before .before .before .before .before .before .before .before .before .before .before .before .before
     .before .before .before .before .before .before .before .before .before .before .before .expr .kept .1 .0)
+    -- same-length-2
     (λ c. let after-cases = c .before .before .before .before .before .before .before .before in
     let after-table = after-cases .before .before .before .before .before .before .before in
     let after-expr = after-table .before .before .before .before .before .before .before .before .before .before .before .before .before in
     c .before .before .mark .kept .0 ∙ after-cases .cases .kept .1 .1 .1 .1 .0 ∙ after-table .table .kept .1 .1 .1 .1 .1 .0
     ∙ after-expr .expr .kept .1 .1 .1 .0)
+    -- returns
     (λ c. let after-cases = c .before .before .before .before .before .before .before .before in let after-in-switch = after-cases .before .before in
     let after-table = after-in-switch .before .before .before .before .before in let after-doubled = after-table .before .before .before .before in
     let after-fresh = after-doubled .before .before in let after-count = after-fresh .before in
     let after-expr = after-count .before .before .before .before .before .before in let after-node-at = after-expr .before .before .before .before in
-    let start = after-node-at .before .before .before .before .before in switch-gave _ (after-node-at .node-at .ensures) (start .pre .1 .1 .is) refl _
-    (after-expr .expr .ensures) (after-count .count .ensures) (after-fresh .fresh .ensures) (after-doubled .doubled .ensures) refl
-    (after-table .table .ensures) _ (gave-cases-at (after-in-switch .in-switch .ensures) (after-cases .cases .ensures))
-    (c .before .before .mark .ensures))
+    let start = after-node-at .before .before .before .before .before in
+    switch-gave _ (after-node-at .node-at .ensures) (start .pre .1 .1 .is) refl _ (after-expr .expr .ensures) (after-count .count .ensures)
+    (after-fresh .fresh .ensures) (after-doubled .doubled .ensures) refl (after-table .table .ensures) _
+    (gave-cases-at (after-in-switch .in-switch .ensures) (after-cases .cases .ensures)) (c .before .before .mark .ensures))
 
 abbrev cases-cs : ℕ → cycle.Lts-cases.Claims
 cases-cs t = three (proofs.scope.entry.Reads.Asked, proofs.scope.entry.Reads.Learnt) (steps.mark.Reads.Asked, steps.mark.Reads.Learnt) (calls bare t)
@@ -160,14 +182,18 @@ cases-ok t =
     cycle.Lts-cases.spec (cases-cs t) (at cases t) (rank cases .post) cases-Inv-loop
     (λ source s₀ from end text₀ here ways first at₀ k₀ r₀ s text at k r. end - at) (λ c. search (needs, cases-begin)) (λ c. omega arith)
     (λ c κs. search needs) (λ c. omega arith) (λ c. omega arith) (λ c κs. search needs)
+    -- bare-requires
     (λ c κs. let after-mark = c .before .before .before .before in let after-entry = after-mark .before .before in
     let after-loop-test = after-entry .before .before in let after-loop = after-loop-test .before in
-    let start = after-loop .before .before .before .before in both (omega (arith, start .pre .0)) (case-part _ _ _ _ (after-loop .loop .k)
-    (after-loop-test .loop-test .taken) (after-entry .entry .ensures .0) refl (after-mark .mark .ensures) (start .pre .1 .0)
-    (after-loop .loop .inv .3 (start .pre .1 .0))))
+    let start = after-loop .before .before .before .before in
+    both (omega (arith, start .pre .0)) (case-part _ _ _ _ (after-loop .loop .k) (after-loop-test .loop-test .taken)
+    (after-entry .entry .ensures .0) refl (after-mark .mark .ensures) (start .pre .1 .0) (after-loop .loop .inv .3 (start .pre .1 .0))))
+    -- add-k
     (λ c. let after-loop-test = c .before .before .before .before .before .before .before .before .before .before .before .before .before in
     let after-loop = after-loop-test .before in let start = after-loop .before .before .before .before in
-    omega (arith, after-loop .loop .inv .2, after-loop-test .loop-test .taken, start .pre .1 .0 .ready .small)) (λ c. omega arith)
+    omega (arith, after-loop .loop .inv .2, after-loop-test .loop-test .taken, start .pre .1 .0 .ready .small))
+    (λ c. omega arith)
+    -- loop-again
     (λ c. let after-bare = c .before .before .before .before in let after-mark = after-bare .before .before .before .before .before in
     let after-entry = after-mark .before .before in let after-loop-test = after-entry .before .before in
     let after-loop = after-loop-test .before in (

@@ -25,10 +25,13 @@ command-ok t =
     cycle.Lts-command.spec (command-cs t) (at command t) (rank command .post) (λ c κs. search needs) (λ c. omega arith)
     (λ c κs. labelled-labels _ (c .before .before .before .before .node-at .ensures) (c .before .before .if1 .taken) refl
     (c .before .before .before .before .before .before .before .before .before .pre .1) .small)
+    -- bare-requires
     (λ c κs. let after-if1 = c .before .before .before .before .before in let after-node-at = after-if1 .before .before in
-    let start = after-node-at .before .before .before .before .before in both (omega (arith, start .pre .0)) (labelled-bare _
-    (after-node-at .node-at .ensures) (after-if1 .if1 .taken) refl _ (c .before .before .misplaced .ensures) (start .pre .1))) (λ c. search needs)
-    (λ c. search needs) (λ c. search labelled-gave) (λ c κs. search needs) (λ c. search needs) (λ c. search needs) (λ c. search unlabelled-gave)
+    let start = after-node-at .before .before .before .before .before in
+    both (omega (arith, start .pre .0)) (labelled-bare _ (after-node-at .node-at .ensures) (after-if1 .if1 .taken) refl _
+    (c .before .before .misplaced .ensures) (start .pre .1)))
+    (λ c. search needs) (λ c. search needs) (λ c. search labelled-gave) (λ c κs. search needs) (λ c. search needs) (λ c. search needs)
+    (λ c. search unlabelled-gave)
 
 abbrev bare-cs : ℕ → cycle.Lts-bare.Claims
 bare-cs t = three (steps.node_at.Reads.Asked, steps.node_at.Reads.Learnt) (steps.inside.Reads.Asked, steps.inside.Reads.Learnt) (calls repeated t)
@@ -37,16 +40,23 @@ pub bare-ok : {M : Type 1} (t : ℕ) → cycle.Lts-bare.Closed (bare-cs t) (at b
 bare-ok t =
     cycle.Lts-bare.spec (bare-cs t) (at bare t) (rank bare .post) (λ c κs. search needs) (λ c. omega arith) (λ c. search needs)
     (λ c. search bare-empty) (λ c κs. search needs)
+    -- repeated-requires
     (λ c κs. let after-if2 = c .before .before .before in let after-if1 = after-if2 .before .before .before in
     let after-node-at = after-if1 .before .before in let start = after-node-at .before .before .before .before .before in
-    both (omega (arith, start .pre .0, left-at, command-some)) (ready-at (c .inside .ensures) (labelled-rest _
-    (after-node-at .node-at .ensures) (after-if1 .if1 .taken) refl (after-if2 .if2 .left) (start .pre .1)))) (λ c. search needs) (λ c. search needs)
+    both (omega (arith, start .pre .0, left-at, command-some))
+    (ready-at (c .inside .ensures) (labelled-rest _ (after-node-at .node-at .ensures) (after-if1 .if1 .taken) refl (after-if2 .if2 .left)
+    (start .pre .1))))
+    (λ c. search needs) (λ c. search needs)
+    -- returns-2
     (λ c. let after-repeated = c .before .before .before .before in let after-inside = after-repeated .before in
     let after-if2 = after-inside .before .before .before in let after-if1 = after-if2 .before .before .before in
-    let after-node-at = after-if1 .before .before in bare-labelled _ (after-node-at .node-at .ensures) (after-if1 .if1 .taken) refl
-    (after-if2 .if2 .left) _ _ (gave-r-at _ (after-inside .inside .ensures) refl (after-repeated .repeated .ensures))) (λ c κs. search needs)
+    let after-node-at = after-if1 .before .before in
+    bare-labelled _ (after-node-at .node-at .ensures) (after-if1 .if1 .taken) refl (after-if2 .if2 .left) _ _
+    (gave-r-at _ (after-inside .inside .ensures) refl (after-repeated .repeated .ensures)))
+    (λ c κs. search needs)
     (λ c κs. both (omega (arith, c .before .before .before .before .before .before .before .before .before .before .pre .0, left-at, command-some))
-    (search (ready-at, bare-part))) (λ c. search needs) (λ c. search needs) (λ c. search (bare-gave, gave-r-at))
+    (search (ready-at, bare-part)))
+    (λ c. search needs) (λ c. search needs) (λ c. search (bare-gave, gave-r-at))
 
 abbrev plain-cs : ℕ → cycle.Lts-plain.Claims
 plain-cs t =

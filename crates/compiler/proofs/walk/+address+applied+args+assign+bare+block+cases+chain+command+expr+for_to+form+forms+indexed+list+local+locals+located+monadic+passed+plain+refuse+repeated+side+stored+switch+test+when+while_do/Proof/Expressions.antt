@@ -29,31 +29,41 @@ expr-ok t =
     (λ c κs. (omega (arith, left-at, some-left), search (ready-at, bracket-part))) (λ c κs. search needs) (λ c. omega arith)
     (λ c κs. both (omega (arith, c .before .before .before .before .before .before .before .before .before .before .pre .0, left-at, some-left))
     (search (ready-at, dyadic-left)))
-    (λ c κs. let after-expr2 = c .before .before .before .before .before .before in
-    let after-inside2 = after-expr2 .before .before .before .before in let after-match = after-inside2 .before in
-    let after-node-at = after-match .before in let start = after-node-at .before .before .before .before .before in
-    both (omega (arith, start .pre .0, left-at, some-left)) (chain-ready-at (after-inside2 .inside2 .ensures) (dyadic-rest _
-    (after-node-at .node-at .ensures) (after-match .match .keys5) refl _ (gave-at _ (after-inside2 .inside2 .ensures)
-    (after-expr2 .expr2 .ensures)) (start .pre .1)))) (λ c κs. omega arith) (λ c κs. search needs) (λ c κs. search needs)
+    -- chain-requires
+    (λ c κs. let after-expr2 = c .before .before .before .before .before .before in let after-inside2 = after-expr2 .before .before .before .before in
+    let after-match = after-inside2 .before in let after-node-at = after-match .before in
+    let start = after-node-at .before .before .before .before .before in
+    both (omega (arith, start .pre .0, left-at, some-left))
+    (chain-ready-at (after-inside2 .inside2 .ensures)
+    (dyadic-rest _ (after-node-at .node-at .ensures) (after-match .match .keys5) refl _
+    (gave-at _ (after-inside2 .inside2 .ensures) (after-expr2 .expr2 .ensures)) (start .pre .1))))
+    (λ c κs. omega arith) (λ c κs. search needs) (λ c κs. search needs)
     (λ c κs. both (let falls = c .before .before .before .before .before .before .before .before .before .before .before .pre .0 in
-    omega (arith, left-at, some-left)) (search (ready-at, valof-part))) (λ c κs. search needs) (λ c κs. search needs)
-    (λ c κs. (omega (arith, left-at, some-left), search (ready-at, monadic-part))) (λ c. omega arith) (λ c κs. search needs)
+    omega (arith, left-at, some-left)) (search (ready-at, valof-part)))
+    (λ c κs. search needs) (λ c κs. search needs) (λ c κs. (omega (arith, left-at, some-left), search (ready-at, monadic-part))) (λ c. omega arith)
+    (λ c κs. search needs)
+    -- applied-requires
     (λ c κs. both (let falls = c .before .before .before .before .before .before .before .before .before .before .pre .0 in
     let small = c .before .before .before .before .before .before .before .before .before .before .pre .1 .small in
-    omega (arith, left-at, some-left)) (search (suffixes-ready-at, suffixed-part))) (λ c. search needs) (λ c. search needs) (λ c. search number-gave)
-    (λ c. search needs) (λ c. search needs) (λ c. search string-gave) (λ c. search needs) (λ c. search needs) (λ c. search name-gave)
-    (λ c. search needs) (λ c. search needs) (λ c. search (bracket-gave, gave-at)) (λ c. search needs) (λ c. search needs)
+    omega (arith, left-at, some-left)) (search (suffixes-ready-at, suffixed-part)))
+    (λ c. search needs) (λ c. search needs) (λ c. search number-gave) (λ c. search needs) (λ c. search needs) (λ c. search string-gave)
+    (λ c. search needs) (λ c. search needs) (λ c. search name-gave) (λ c. search needs) (λ c. search needs) (λ c. search (bracket-gave, gave-at))
+    (λ c. search needs) (λ c. search needs)
+    -- returns-5
     (λ c. let after-chain = c .before .before .before .before in
     let after-expr2 = after-chain .before .before .before .before .before .before .before in
     let after-inside2 = after-expr2 .before .before .before .before in let after-match = after-inside2 .before in
-    let after-node-at = after-match .before in dyadic-gave _ (after-node-at .node-at .ensures) (after-match .match .keys5) refl _
-    (gave-at _ (after-inside2 .inside2 .ensures) (after-expr2 .expr2 .ensures)) (chain-gave-at (after-inside2 .inside2 .ensures)
-    (after-chain .chain .ensures))) (λ c. search needs) (λ c. search needs) (λ c. search (valof-gave, gave-c-at)) (λ c. search needs)
-    (λ c. search needs) (λ c. search (monadic-gave, gave-monadic-at)) (λ c. search needs) (λ c. search needs)
+    let after-node-at = after-match .before in
+    dyadic-gave _ (after-node-at .node-at .ensures) (after-match .match .keys5) refl _
+    (gave-at _ (after-inside2 .inside2 .ensures) (after-expr2 .expr2 .ensures))
+    (chain-gave-at (after-inside2 .inside2 .ensures) (after-chain .chain .ensures)))
+    (λ c. search needs) (λ c. search needs) (λ c. search (valof-gave, gave-c-at)) (λ c. search needs) (λ c. search needs)
+    (λ c. search (monadic-gave, gave-monadic-at)) (λ c. search needs) (λ c. search needs)
+    -- returns-8
     (λ c. let after-applied = c .before .before .before .before in let after-inside5 = after-applied .before in
     let after-match = after-inside5 .before .before .before .before in let after-node-at = after-match .before in
-    suffixed-gave _ (after-node-at .node-at .ensures) (after-match .match .rest) refl _ (suffixes-gave-at (after-inside5 .inside5 .ensures)
-    (after-applied .applied .ensures)))
+    suffixed-gave _ (after-node-at .node-at .ensures) (after-match .match .rest) refl _
+    (suffixes-gave-at (after-inside5 .inside5 .ensures) (after-applied .applied .ensures)))
 
 abbrev chain-cs : ℕ → cycle.Lts-chain.Claims
 chain-cs t =
@@ -70,16 +80,21 @@ chain-ok t =
     cycle.Lts-chain.spec (chain-cs t) (at chain t) (rank chain .post) chain-Inv-loop (λ source s₀ from end text₀ here at₀ r₀ s text at r. end - at)
     (λ c. search (needs, chain-begin)) (λ c κs. search needs) (λ c. omega arith) (λ c κs. search needs) (λ c. omega arith)
     (λ c. omega (arith, c .before .before .entry .ensures .1)) (λ c κs. omega arith) (λ c κs. omega arith)
+    -- expr-requires
     (λ c κs. let after-keep = c .before .before .before .before .before in let after-entry2 = after-keep .before .before in
-    let after-entry = after-entry2 .before .before in let after-loop-test = after-entry .before .before in
-    let after-loop = after-loop-test .before in let start = after-loop .before .before .before .before in
-    both (omega (arith, start .pre .0, left-at)) (ready-at (c .raised .ensures) (chain-part _ _ (after-loop-test .loop-test .taken)
-    (after-entry .entry .ensures .0) (after-entry2 .entry2 .ensures .0) refl (after-keep .keep .ensures .label) (start .pre .1)
-    (after-loop .loop .inv .2 (start .pre .1))))) (λ c κs. search needs)
+    let after-entry = after-entry2 .before .before in let after-loop-test = after-entry .before .before in let after-loop = after-loop-test .before in
+    let start = after-loop .before .before .before .before in
+    both (omega (arith, start .pre .0, left-at))
+    (ready-at (c .raised .ensures) (chain-part _ _ (after-loop-test .loop-test .taken) (after-entry .entry .ensures .0)
+    (after-entry2 .entry2 .ensures .0) refl (after-keep .keep .ensures .label) (start .pre .1) (after-loop .loop .inv .2 (start .pre .1)))))
+    (λ c κs. search needs)
+    -- operate-requires
     (λ c κs. let start = c .before .before .before .before .before .before .before .before .before .before .before .before .before .before .before
     .before .before .before .before .before .before .before .before in omega (arith, start .pre .1 .ready .height))
+    -- loop-less
     (λ c. let after-loop-test = c .before .before .before .before .before .before .before .before .before .before .before .before .before .before
     .before .before .before .before .before .before .before in omega (arith, after-loop-test .loop-test .taken))
+    -- loop-again
     (λ c. let after-act-of = c .before .before .before in let after-expr = after-act-of .before .before .before .before .before .before in
     let after-raised = after-expr .before in let after-keep = after-raised .before .before .before .before .before in
     let after-entry2 = after-keep .before .before in let after-entry = after-entry2 .before .before in
@@ -91,7 +106,8 @@ chain-ok t =
           (after-entry .entry .ensures .0) (after-entry2 .entry2 .ensures .0) refl (after-act-of .act-of .ensures) (after-keep .keep .ensures)
           (gave-at _ (after-raised .raised .ensures) (after-expr .expr .ensures)) (c .before .before .operate .ensures) y
           (after-loop .loop .inv .2 y),
-    )) (λ c. search needs) (λ c. search needs) (λ c. search chain-end)
+    ))
+    (λ c. search needs) (λ c. search needs) (λ c. search chain-end)
 
 abbrev monadic-cs : ℕ → cycle.Lts-monadic.Claims
 monadic-cs t =

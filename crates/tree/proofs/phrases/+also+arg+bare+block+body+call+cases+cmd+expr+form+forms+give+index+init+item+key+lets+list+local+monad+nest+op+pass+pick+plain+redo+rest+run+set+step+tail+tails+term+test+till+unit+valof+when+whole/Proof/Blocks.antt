@@ -35,35 +35,43 @@ step-ok t =
     (λ c κs. let e = c .before .before .before .a-name in pair (ready-leaves (e .ensures .1 .0) (e .kept .0) refl (e .ensures .0)) (omega arith))
     (λ c κs. pair (omega arith) (pair (past-symbol refl (c .before .expect2 .ensures)) (omega arith)))
     (λ c κs. let e = c .before .before .before .expr in pair (past-expression refl (e .ensures) (e .kept .0)) (omega arith))
-    (λ c κs. let expect3 = c .before in let start = expect3 .before .before .before .before .before .before .before .before .before .before .before
-    .before .before .before .before .before .before in pair (omega (arith, start .pre .0)) (pair (past-symbol refl (expect3 .expect3 .ensures)) (omega
-    arith)))
+    -- expr-requires-2
+    (λ c κs. let expect3 = c .before in let start
+    = expect3 .before .before .before .before .before .before .before .before .before .before .before .before .before .before .before .before .before
+    in pair (omega (arith, start .pre .0)) (pair (past-symbol refl (expect3 .expect3 .ensures)) (omega arith)))
     (λ c κs. let e = c .before .before .before .expr2 in past-expression refl (e .ensures) (e .kept .0)) (λ c κs. tt) (λ c κs. tt) (λ c κs. tt)
-    (λ c κs. let e = c .before .before .before .before .before .before .before .before .optional-by in pair (ready-leaves (e .ensures .1 .0)
-    (e .kept .0) refl (e .ensures .0)) (omega arith))
-    (λ c κs. let expect4 = c .before in let start = expect4 .before .before .before .before .before .before .before .before .before .before .before
-    .before .before .before .before .before .before .before .before .before .before .before .before .before .before .before .before .before .before
-    .before .before .before in pair (omega (arith, start .pre .0)) (past-symbol refl (expect4 .expect4 .ensures)))
+    (λ c κs. let e = c .before .before .before .before .before .before .before .before .optional-by in
+    pair (ready-leaves (e .ensures .1 .0) (e .kept .0) refl (e .ensures .0)) (omega arith))
+    -- cmd-requires
+    (λ c κs. let expect4 = c .before in let start
+    = expect4 .before .before .before .before .before .before .before .before .before .before .before .before .before .before .before .before .before
+    .before .before .before .before .before .before .before .before .before .before .before .before .before .before .before in
+    pair (omega (arith, start .pre .0)) (past-symbol refl (expect4 .expect4 .ensures)))
+    -- cast-node
     (λ c. let expect4 = c .before .before .before .before .before in let minus = expect4 .before .before in
     let free-of2 = minus .before .before .before in let small = size-small _ (minus .minus .ensures .1) (free-of2 .free-of2 .ensures .1)
     (expect4 .expect4 .ensures .0 .0) in omega arith)
-    (λ c κs. ready-leaves (c .before .before .before .cmd .ensures .1 .0) (c .before .before .before .cmd .kept .0) refl (past-symbol refl
-    (c .before .before .before .before .before .expect4 .ensures)))
-    (λ c. let node = c .before .before in let cmd = node .before .before .before .before in let optional-by = cmd .before .before .before .before
-    .before .before .before .before .before .before .before in let expr2 = optional-by .before .before .before .before in
-    let expr = expr2 .before .before .before .before .before .before in let a-name = expr .before .before .before .before .before .before in
-    node .node .kept .0 ∙ cmd .cmd .kept .0 ∙ optional-by .optional-by .kept .0 ∙ expr2 .expr2 .kept .0 ∙ expr .expr .kept .0 ∙
-    a-name .a-name .kept .0)
+    (λ c κs. ready-leaves (c .before .before .before .cmd .ensures .1 .0) (c .before .before .before .cmd .kept .0) refl
+    (past-symbol refl (c .before .before .before .before .before .expect4 .ensures)))
+    -- same-length
+    (λ c. let node = c .before .before in let cmd = node .before .before .before .before in
+    let optional-by = cmd .before .before .before .before .before .before .before .before .before .before .before in
+    let expr2 = optional-by .before .before .before .before in let expr = expr2 .before .before .before .before .before .before in
+    let a-name = expr .before .before .before .before .before .before in
+    node .node .kept .0 ∙ cmd .cmd .kept .0 ∙ optional-by .optional-by .kept .0 ∙ expr2 .expr2 .kept .0 ∙ expr .expr .kept .0
+    ∙ a-name .a-name .kept .0)
+    -- returns
     (λ c. let node = c .before .before in let cmd = node .before .before .before .before in let expect4 = cmd .before .before in
     let minus = expect4 .before .before in let free-of3 = minus .before in let free-of2 = free-of3 .before .before in
     let optional-by = free-of2 .before .before .before .before in let expr2 = optional-by .before .before .before .before in
     let expect3 = expr2 .before .before in let expr = expect3 .before .before .before .before in let expect2 = expr .before .before in
-    let a-name = expect2 .before .before .before .before in let expect = a-name .before .before in let free-of = expect .before .before in let same =
-    optional-by .optional-by .kept .0 ∙ expr2 .expr2 .kept .0 ∙ expr .expr .kept .0 ∙ a-name .a-name .kept .0 in leaves ((λ src l a b c d f g h i j.
-    for-read l _ _ (free-of .free-of .ensures .1) a b c d f g h i j (for-size _ _ (minus .minus .ensures .1) (free-of2 .free-of2 .ensures .1)
-    (free-of3 .free-of3 .ensures .1) same)) from expect .expect .ensures .1 with a-name .a-name .ensures .1 with expect2 .expect2 .ensures .1 with
-    expr .expr .ensures .1 with expect3 .expect3 .ensures .1 with expr2 .expr2 .ensures .1 with optional-by .optional-by .ensures .1 with
-    expect4 .expect4 .ensures .1 with cmd .cmd .ensures .1 adding node .node .ensures .1) refl)
+    let a-name = expect2 .before .before .before .before in let expect = a-name .before .before in let free-of = expect .before .before in
+    let same = optional-by .optional-by .kept .0 ∙ expr2 .expr2 .kept .0 ∙ expr .expr .kept .0 ∙ a-name .a-name .kept .0 in
+    leaves ((λ src l a b c d f g h i j. for-read l _ _ (free-of .free-of .ensures .1) a b c d f g h i j
+    (for-size _ _ (minus .minus .ensures .1) (free-of2 .free-of2 .ensures .1) (free-of3 .free-of3 .ensures .1) same)) from expect .expect .ensures .1
+    with a-name .a-name .ensures .1 with expect2 .expect2 .ensures .1 with expr .expr .ensures .1 with expect3 .expect3 .ensures .1 with
+    expr2 .expr2 .ensures .1 with optional-by .optional-by .ensures .1 with expect4 .expect4 .ensures .1 with cmd .cmd .ensures .1 adding
+    node .node .ensures .1) refl)
 
 abbrev pub pick-cs : ℕ → Calls cycle.Lts-pick.Claims
 pick-cs t = calls-7 free-of expect (below expr-rank t) minus (below item-rank t) (below list-rank t) node
@@ -75,24 +83,28 @@ pick-ok t =
     (λ c κs. let e = c .before .before .before .before .before .before .expr in pair (past-expression refl (e .ensures) (e .kept .0)) (omega arith))
     (λ c κs. pair (past-symbol refl (c .before .expect2 .ensures)) (omega arith))
     (λ c κs. pair (omega arith) (past-symbol refl (c .before .expect3 .ensures)))
-    (λ c κs. let item = c .before .before .before in let start = item .before .before .before .before .before .before .before .before .before .before
-    .before .before .before .before .before .before .before .before in pair (omega (arith, start .pre .0)) (ready-takes (item .item .ensures .1 .0)
-    (item .item .kept .0) (item .item .ensures .0 .1)))
+    -- list-requires
+    (λ c κs. let item = c .before .before .before in let start
+    = item .before .before .before .before .before .before .before .before .before .before .before .before .before .before .before .before .before
+    .before in pair (omega (arith, start .pre .0)) (ready-takes (item .item .ensures .1 .0) (item .item .kept .0) (item .item .ensures .0 .1)))
+    -- cast-node
     (λ c. let expect2 = c .before .before .before .before .before .before .before .before .before .before .before in
-    let minus = expect2 .before .before in let free-of2 = minus .before in let small = size-small _ (minus .minus .ensures .1)
-    (free-of2 .free-of2 .ensures .1) (expect2 .expect2 .ensures .0 .0) in omega arith)
+    let minus = expect2 .before .before in let free-of2 = minus .before in
+    let small = size-small _ (minus .minus .ensures .1) (free-of2 .free-of2 .ensures .1) (expect2 .expect2 .ensures .0 .0) in omega arith)
     (λ c κs. ready-leaves (c .before .before .before .list .ensures .1 .0) (c .before .before .before .list .kept .0) refl
     (c .before .before .before .list .ensures .0 .1))
     (λ c. let node = c .before .before in let at-list = node .before .before .before .before in let item = at-list .before .before .before .before in
-    let expr = item .before .before .before .before .before .before .before .before .before .before .before in node .node .kept .0 ∙
-    at-list .list .kept .0 ∙ item .item .kept .0 ∙ expr .expr .kept .0)
+    let expr = item .before .before .before .before .before .before .before .before .before .before .before in
+    node .node .kept .0 ∙ at-list .list .kept .0 ∙ item .item .kept .0 ∙ expr .expr .kept .0)
+    -- returns
     (λ c. let node = c .before .before in let at-list = node .before .before .before .before in let item = at-list .before .before .before .before in
     let expect3 = item .before .before in let expect2 = expect3 .before .before in let minus = expect2 .before .before in
     let free-of2 = minus .before in let expr = free-of2 .before .before .before .before in let expect = expr .before .before in
-    let free-of = expect .before .before in leaves ((λ src l a b c d f g. switchon-read l _ _ (free-of .free-of .ensures .1) a b c d f g (measured _ _
-    (minus .minus .ensures .1) (free-of2 .free-of2 .ensures .1) (expr .expr .kept .0))) from expect .expect .ensures .1 with expr .expr .ensures .1
-    with expect2 .expect2 .ensures .1 with expect3 .expect3 .ensures .1 taking item .item .ensures .1 with at-list .list .ensures .1 adding
-    node .node .ensures .1) refl)
+    let free-of = expect .before .before in leaves
+    ((λ src l a b c d f g. switchon-read l _ _ (free-of .free-of .ensures .1) a b c d f g
+    (measured _ _ (minus .minus .ensures .1) (free-of2 .free-of2 .ensures .1) (expr .expr .kept .0))) from expect .expect .ensures .1 with
+    expr .expr .ensures .1 with expect2 .expect2 .ensures .1 with expect3 .expect3 .ensures .1 taking item .item .ensures .1 with
+    at-list .list .ensures .1 adding node .node .ensures .1) refl)
 
 abbrev pub item-cs : ℕ → Calls cycle.Lts-item.Claims
 item-cs t = calls-4 free-of begin-item (below cmd-rank t) set-size
@@ -102,13 +114,17 @@ item-ok t =
     cycle.Lts-item.spec (item-cs t .claims) (at item-rank t) (item-rank .post) (λ c κs. tt) (λ c κs. omega arith)
     (λ c κs. pair (omega arith) (ready-takes (c .before .before .before .begin-item .ensures .1 .0) (c .before .before .before .begin-item .kept .0)
     (c .before .before .before .begin-item .ensures .0)))
+    -- set-size-requires
     (λ c κs. let cmd = c .before .before .before in let begin-item = cmd .before .before .before .before in
-    let free-of = begin-item .before .before in pair (past-part refl (cmd .cmd .ensures) (cmd .cmd .kept .0)) (item-low (free-of .free-of .ensures .1)
-    (ready-part (begin-item .begin-item .ensures .0) refl))) (λ c. omega arith)
+    let free-of = begin-item .before .before in
+    pair (past-part refl (cmd .cmd .ensures) (cmd .cmd .kept .0))
+    (item-low (free-of .free-of .ensures .1) (ready-part (begin-item .begin-item .ensures .0) refl)))
+    (λ c. omega arith)
+    -- returns
     (λ c. let set-size = c .before .before in let cmd = set-size .before .before .before .before in
-    let begin-item = cmd .before .before .before .before in let free-of = begin-item .before .before in takes ((λ src l. listed-read src _ _
-    (free-of .free-of .ensures .1) (low (begin-item .begin-item .ensures .0))) writing begin-item .begin-item .ensures .1 with cmd .cmd .ensures .1
-    setting set-size .set-size .ensures .1) refl)
+    let begin-item = cmd .before .before .before .before in let free-of = begin-item .before .before in
+    takes ((λ src l. listed-read src _ _ (free-of .free-of .ensures .1) (low (begin-item .begin-item .ensures .0))) writing
+    begin-item .begin-item .ensures .1 with cmd .cmd .ensures .1 setting set-size .set-size .ensures .1) refl)
 
 abbrev pub list-cs : ℕ → Calls cycle.Lts-list.Claims
 list-cs t = calls-4 kind-here expect (below item-rank t) refuse
@@ -126,20 +142,24 @@ list-ok t =
     cycle.Lts-list.spec (list-cs t .claims) (at list-rank t) (list-rank .post) list-inv list-turns (λ c. so-begins (c .before .pre .1) before-first)
     (λ c κs. ready-leaves (c .before .before .loop .inv .room) (c .before .before .loop .inv .same) refl (c .before .before .before .before .pre .1))
     (λ c κs. pair (c .before .before .kind-here .ensures .0) (omega arith)) (λ c. omega arith)
-    (λ c. let if1 = c .before .before in let kind-here = if1 .before in let in-loop = kind-here .before .before .before in list-ends _ _ _
-    (in-loop .loop .inv) (kind-here .kind-here .ensures .1) no-command-words (if1 .if1 .taken) (c .expect .ensures .1) (omega arith))
+    -- returns
+    (λ c. let if1 = c .before .before in let kind-here = if1 .before in let in-loop = kind-here .before .before .before in
+    list-ends _ _ _ (in-loop .loop .inv) (kind-here .kind-here .ensures .1) no-command-words (if1 .if1 .taken) (c .expect .ensures .1) (omega arith))
     (λ c κs. pair (c .before .before .kind-here .ensures .0) (omega arith)) (λ c κs. past-symbol refl (c .before .expect2 .ensures))
     (λ c κs. pair (c .before .before .kind-here2 .ensures .0) (omega arith)) (λ c. omega arith)
+    -- returns-2
     (λ c. let if2 = c .before .before in let kind-here2 = if2 .before in let expect2 = kind-here2 .before .before in
-    let if1 = expect2 .before .before in let kind-here = if1 .before in let in-loop = kind-here .before .before .before in list-semicolon-ends _ _ _
-    (in-loop .loop .inv) (kind-here .kind-here .ensures .1) no-command-words (if1 .if1 .left) (expect2 .expect2 .ensures .1)
+    let if1 = expect2 .before .before in let kind-here = if1 .before in let in-loop = kind-here .before .before .before in
+    list-semicolon-ends _ _ _ (in-loop .loop .inv) (kind-here .kind-here .ensures .1) no-command-words (if1 .if1 .left) (expect2 .expect2 .ensures .1)
     (kind-here2 .kind-here2 .ensures .1) (if2 .if2 .taken) (c .expect3 .ensures .1) (omega arith))
     (λ c κs. pair (omega arith) (past-symbol refl (c .before .before .before .before .expect2 .ensures))) (λ c. omega arith) (λ c. omega arith)
+    -- loop-again
     (λ c. let item = c .before .before in let if2 = item .before .before in let kind-here2 = if2 .before in
     let expect2 = kind-here2 .before .before in let if1 = expect2 .before .before in let kind-here = if1 .before in
-    let in-loop = kind-here .before .before .before in list-goes-on _ _ _ (in-loop .loop .inv) (kind-here .kind-here .ensures .1) (if1 .if1 .left)
-    (expect2 .expect2 .ensures .1) (kind-here2 .kind-here2 .ensures .1) (if2 .if2 .left) (takes-more (item .item .ensures .1 .0) refl)
-    (item .item .kept .0) (item .item .ensures .1 .1) (omega arith))
+    let in-loop = kind-here .before .before .before in
+    list-goes-on _ _ _ (in-loop .loop .inv) (kind-here .kind-here .ensures .1) (if1 .if1 .left) (expect2 .expect2 .ensures .1)
+    (kind-here2 .kind-here2 .ensures .1) (if2 .if2 .left) (takes-more (item .item .ensures .1 .0) refl) (item .item .kept .0)
+    (item .item .ensures .1 .1) (omega arith))
     (λ c κs. ready-leaves (c .before .before .loop .inv .room) (c .before .before .loop .inv .same) refl (c .before .before .before .before .pre .1))
     (λ c. omega arith) (λ c. list-spents _ _ _ (c .before .before .before .loop .inv) (c .refuse .ensures .1) (omega arith))
 
@@ -151,11 +171,14 @@ till-ok t =
     cycle.Lts-till.spec (till-cs t .claims) (at till-rank t) (till-rank .post) (λ c κs. omega arith) (λ c κs. omega arith) (λ c κs. omega arith)
     (λ c κs. pair (past-symbol refl (c .before .expect2 .ensures)) (omega arith)) (λ c κs. omega arith)
     (λ c κs. pair (omega arith) (ready-takes (c .before .before .before .item .ensures .1 .0) (c .before .before .before .item .kept .0)
-    (c .before .before .before .item .ensures .0 .1))) (λ c. omega arith)
+    (c .before .before .before .item .ensures .0 .1)))
+    (λ c. omega arith)
     (λ c. no-commands _ (c .before .before .before .kind-here .ensures .1) (c .before .before .match .keys1) (c .expect .ensures .1))
     (λ c. omega arith)
     (λ c. semicolon-commands _ (c .before .before .before .before .before .kind-here .ensures .1) (c .before .before .before .before .match .keys2)
-    (c .before .before .expect2 .ensures .1) (c .expect3 .ensures .1)) (λ c. omega arith)
+    (c .before .before .expect2 .ensures .1) (c .expect3 .ensures .1))
+    (λ c. omega arith)
+    -- returns-3
     (λ c. let list = c .before .before in let item = list .before .before .before .before in let after-match = item .before .before in
     let kind-here = after-match .before in some-commands _ (kind-here .kind-here .ensures .1) (after-match .match .rest) (item .item .ensures .1)
     (list .list .ensures .1))
@@ -167,18 +190,23 @@ pub block-ok : {M : Type 1} (t : ℕ) → cycle.Lts-block.Closed (block-cs t .cl
 block-ok t =
     cycle.Lts-block.spec (block-cs t .claims) (at block-rank t) (block-rank .post) (λ c κs. tt) (λ c κs. omega arith)
     (λ c κs. pair (omega arith) (past-symbol refl (c .before .expect .ensures))) (λ c κs. tt) (λ c κs. tt)
+    -- till-requires
     (λ c κs. pair (omega arith) (ready-leaves (c .before .before .before .before .before .before .lets .ensures .1 .0)
-    (c .before .before .before .before .before .before .lets .kept .0) refl (past-symbol refl
-    (c .before .before .before .before .before .before .before .before .expect .ensures))))
-    (λ c. let till = c .before .before .before in let minus = till .before .before in let free-of2 = minus .before in let small = size-small _
-    (minus .minus .ensures .1) (free-of2 .free-of2 .ensures .1) (ready-part (till .till .ensures .0 .1) refl) in omega arith)
-    (λ c κs. ready-leaves (c .before .before .before .till .ensures .1 .0) (c .before .before .before .till .kept .0) refl (ready-part
-    (c .before .before .before .till .ensures .0 .1) refl)) (λ c. omega arith)
+    (c .before .before .before .before .before .before .lets .kept .0) refl
+    (past-symbol refl (c .before .before .before .before .before .before .before .before .expect .ensures))))
+    -- cast-node
+    (λ c. let till = c .before .before .before in let minus = till .before .before in let free-of2 = minus .before in
+    let small = size-small _ (minus .minus .ensures .1) (free-of2 .free-of2 .ensures .1) (ready-part (till .till .ensures .0 .1) refl) in omega arith)
+    (λ c κs. ready-leaves (c .before .before .before .till .ensures .1 .0) (c .before .before .before .till .kept .0) refl
+    (ready-part (c .before .before .before .till .ensures .0 .1) refl))
+    (λ c. omega arith)
+    -- returns
     (λ c. let node = c .before .before in let till = node .before .before .before .before in let minus = till .before .before in
     let free-of2 = minus .before in let lets = free-of2 .before .before .before .before in let expect = lets .before .before in
-    let free-of = expect .before .before in leaves ((λ src l a b c. block-read l _ _ (free-of .free-of .ensures .1) a b c (measured _ _
-    (minus .minus .ensures .1) (free-of2 .free-of2 .ensures .1) (lets .lets .kept .0))) from expect .expect .ensures .1 with lets .lets .ensures .1
-    with till .till .ensures .1 adding node .node .ensures .1) refl)
+    let free-of = expect .before .before in leaves
+    ((λ src l a b c. block-read l _ _ (free-of .free-of .ensures .1) a b c
+    (measured _ _ (minus .minus .ensures .1) (free-of2 .free-of2 .ensures .1) (lets .lets .kept .0))) from expect .expect .ensures .1 with
+    lets .lets .ensures .1 with till .till .ensures .1 adding node .node .ensures .1) refl)
 
 abbrev pub lets-cs : ℕ → Calls cycle.Lts-lets.Claims
 lets-cs t = calls-2 kind-here (below local-rank t)
@@ -201,10 +229,12 @@ lets-ok t =
     (λ c κs. pair (omega arith) (ready-leaves (c .before .before .before .before .before .loop .inv .room)
     (c .before .before .before .before .before .loop .inv .same) refl (c .before .before .before .before .before .before .before .pre .1)))
     (λ c. omega arith) (λ c. omega arith)
+    -- loop-again
     (λ c. let local = c .before .before in let if1 = local .before .before in let kind-here = if1 .before in
-    let in-loop = kind-here .before .before .before in many-turns _ _ _ _ before-next (in-loop .loop .inv) (kind-here .kind-here .ensures .1) (eq-eqb
-    _ _ (if1 .if1 .left)) (at-any (local .local .ensures .1)) (local .local .kept .0) (omega arith)) (λ c. omega arith)
-    (λ c. many-spent _ _ _ _ before-last (wordless no-local-words) refl (c .before .loop .inv) (omega arith))
+    let in-loop = kind-here .before .before .before in
+    many-turns _ _ _ _ before-next (in-loop .loop .inv) (kind-here .kind-here .ensures .1) (eq-eqb _ _ (if1 .if1 .left))
+    (at-any (local .local .ensures .1)) (local .local .kept .0) (omega arith))
+    (λ c. omega arith) (λ c. many-spent _ _ _ _ before-last (wordless no-local-words) refl (c .before .loop .inv) (omega arith))
 
 abbrev pub local-cs : ℕ → Calls cycle.Lts-local.Claims
 local-cs t = calls-9 free-of expect begin-item a-name further-names minus (below init-rank t) optional set-size
@@ -213,12 +243,14 @@ pub local-ok : {M : Type 1} (t : ℕ) → cycle.Lts-local.Closed (local-cs t .cl
 local-ok t =
     cycle.Lts-local.spec (local-cs t .claims) (at local-rank t) (local-rank .post) (λ c κs. tt) (λ c κs. omega arith)
     (λ c κs. past-symbol refl (c .before .expect .ensures)) (λ c κs. tt)
+    -- a-name-requires
     (λ c κs. ready-takes (c .before .before .before .before .before .begin-item .ensures .1 .0)
     (c .before .before .before .before .before .begin-item .kept .0) (c .before .before .before .before .before .begin-item .ensures .0))
     (λ c κs. let e = c .before .before .before .a-name in ready-leaves (e .ensures .1 .0) (e .kept .0) refl (e .ensures .0)) (λ c κs. tt) (λ c κs. tt)
     (λ c κs. tt)
-    (λ c κs. let e = c .before .before .before .before .before .before .before .before .further-names in pair (ready-leaves (e .ensures .1 .0)
-    (e .kept .0) refl (e .ensures .0)) (omega arith))
+    (λ c κs. let e = c .before .before .before .before .before .before .before .before .further-names in
+    pair (ready-leaves (e .ensures .1 .0) (e .kept .0) refl (e .ensures .0)) (omega arith))
+    -- init-requires
     (λ c κs. let expect2 = c .before in let start = expect2 .before .before .before .before .before .before .before .before .before .before .before
     .before .before .before .before .before .before .before .before .before .before .before .before .before .before .before in pair (omega (
       arith,
@@ -226,14 +258,19 @@ local-ok t =
     )) (past-symbol refl (expect2 .expect2 .ensures)))
     (λ c κs. pair (ready-takes (c .before .before .before .init .ensures .1 .0) (c .before .before .before .init .kept .0)
     (c .before .before .before .init .ensures .0 .1)) (omega arith))
-    (λ c κs. let optional = c .before in let expect = optional .before .before .before .before .before .before .before .before .before .before .before
-    .before .before .before .before .before .before .before .before .before .before .before .before .before .before .before .before in
-    let free-of = expect .before .before in pair (ready-leaves (optional .optional .ensures .1 .0) refl refl (optional .optional .ensures .0 .0))
+    -- set-size-requires
+    (λ c κs. let optional = c .before in let expect
+    = optional .before .before .before .before .before .before .before .before .before .before .before .before .before .before .before .before .before
+    .before .before .before .before .before .before .before .before .before .before in let free-of = expect .before .before in
+    pair (ready-leaves (optional .optional .ensures .1 .0) refl refl (optional .optional .ensures .0 .0))
     (item-low (free-of .free-of .ensures .1) (expect .expect .ensures .0 .0)))
-    (λ c. let set-size = c .before .before in let init = set-size .before .before .before .before .before .before in let further-names = init .before
-    .before .before .before .before .before .before .before .before .before .before in let a-name = further-names .before .before .before .before in
-    let begin-item = a-name .before .before .before .before .before .before in set-size .set-size .kept .0 ∙ init .init .kept .0 ∙
-    further-names .further-names .kept .0 ∙ a-name .a-name .kept .0 ∙ begin-item .begin-item .kept .0)
+    -- same-length
+    (λ c. let set-size = c .before .before in let init = set-size .before .before .before .before .before .before in
+    let further-names = init .before .before .before .before .before .before .before .before .before .before .before in
+    let a-name = further-names .before .before .before .before in let begin-item = a-name .before .before .before .before .before .before in
+    set-size .set-size .kept .0 ∙ init .init .kept .0 ∙ further-names .further-names .kept .0 ∙ a-name .a-name .kept .0
+    ∙ begin-item .begin-item .kept .0)
+    -- returns
     (λ c. let set-size = c .before .before in let optional = set-size .before .before in let init = optional .before .before .before .before in
     let expect2 = init .before .before in let minus = expect2 .before .before in let free-of4 = minus .before in
     let free-of3 = free-of4 .before .before in let further-names = free-of3 .before .before .before .before in
@@ -265,6 +302,7 @@ pub init-ok : {M : Type 1} (t : ℕ) → cycle.Lts-init.Closed (init-cs t .claim
 init-ok t =
     cycle.Lts-init.spec (init-cs t .claims) (at init-rank t) (init-rank .post) (λ c κs. omega arith) (λ c κs. tt) (λ c κs. omega arith)
     (λ c. omega arith)
+    -- returns
     (λ c. let vector = c .before .before in let if1 = vector .before .before in let is-vector = if1 .before in let kind-here = is-vector .before in
     let start = kind-here .before .before .before in let v = vector-is (kind-here .kind-here .result) (start .args .further) (sym
     (is-vector .is-vector .ensures .1) ∙ if1 .if1 .taken) in pair (takes-none (vector .vector .ensures .1 .0)) (λ src l. pair
@@ -276,20 +314,26 @@ init-ok t =
       arith,
       q,
       v .1,
-    )))))))) (λ c κs. tt) (λ c κs. tt) (λ c κs. omega arith)
-    (λ c κs. pair (omega arith) (ready-takes (c .before .before .before .arg .ensures .1 .0) (c .before .before .before .arg .kept .0) (ready-part
-    (c .before .before .before .arg .ensures .0 .1) refl)))
-    (λ c. let arg = c .before .before .before .before .before .before .before in let minus = arg .before .before in let free-of = minus .before in let
-    small = size-small _ (minus .minus .ensures .1) (free-of .free-of .ensures .1) (ready-part (arg .arg .ensures .0 .1) refl) in omega arith)
+    ))))))))
+    (λ c κs. tt) (λ c κs. tt) (λ c κs. omega arith)
+    (λ c κs. pair (omega arith) (ready-takes (c .before .before .before .arg .ensures .1 .0) (c .before .before .before .arg .kept .0)
+    (ready-part (c .before .before .before .arg .ensures .0 .1) refl)))
+    -- cast-node
+    (λ c. let arg = c .before .before .before .before .before .before .before in let minus = arg .before .before in let free-of = minus .before in
+    let small = size-small _ (minus .minus .ensures .1) (free-of .free-of .ensures .1) (ready-part (arg .arg .ensures .0 .1) refl) in omega arith)
+    -- node-requires
     (λ c κs. let rest = c .before .before .before in let arg = rest .before .before .before .before in
-    let start = arg .before .before .before .before .before .before .before .before .before .before in ready-leaves (rest .rest .ensures .1 .0)
-    (rest .rest .kept .0) refl (ready-takes (arg .arg .ensures .1 .0) (arg .arg .kept .0) (start .pre .1))) (λ c. omega arith)
+    let start = arg .before .before .before .before .before .before .before .before .before .before in
+    ready-leaves (rest .rest .ensures .1 .0) (rest .rest .kept .0) refl (ready-takes (arg .arg .ensures .1 .0) (arg .arg .kept .0) (start .pre .1)))
+    (λ c. omega arith)
+    -- returns-2
     (λ c. let node = c .before .before in let rest = node .before .before .before .before in let arg = rest .before .before .before .before in
     let minus = arg .before .before in let free-of = minus .before in let if1 = free-of .before .before in let is-vector = if1 .before in
-    let kind-here = is-vector .before in let start = kind-here .before .before .before in pair (room-taken (taken (arg .arg .ensures .1 .0) plus
-    (rest .rest .ensures .1 .0) less (node .node .ensures .1 .0)) refl) (λ src l. let l₁ = lies-still l (arg .arg .ensures .1 .0 .kept) in pair
-    (goes-on (arg .arg .ensures .1 .1 src l) then goes-on (rest .rest .ensures .1 .1 src l₁) then adds-on (node .node .ensures .1 .1)) (λ name names q
-    e. given-values src _ (kind-here .kind-here .ensures .1 src l) name names (λ z. vector-not (kind-here .kind-here .result) (start .args .further)
-    (sym (is-vector .is-vector .ensures .1) ∙ if1 .if1 .left) (omega (arith, q, z))) (values-read src _ _ name names _ q e (measured _ _
-    (minus .minus .ensures .1) (free-of .free-of .ensures .1) refl) (arg .arg .ensures .1 .1 src l) (rest .rest .ensures .1 .1 src l₁)
-    (node .node .ensures .1 .1)))))
+    let kind-here = is-vector .before in let start = kind-here .before .before .before in
+    pair (room-taken (taken (arg .arg .ensures .1 .0) plus (rest .rest .ensures .1 .0) less (node .node .ensures .1 .0)) refl)
+    (λ src l. let l₁ = lies-still l (arg .arg .ensures .1 .0 .kept) in
+    pair (goes-on (arg .arg .ensures .1 .1 src l) then goes-on (rest .rest .ensures .1 .1 src l₁) then adds-on (node .node .ensures .1 .1))
+    (λ name names q e. given-values src _ (kind-here .kind-here .ensures .1 src l) name names
+    (λ z. vector-not (kind-here .kind-here .result) (start .args .further) (sym (is-vector .is-vector .ensures .1) ∙ if1 .if1 .left)
+    (omega (arith, q, z))) (values-read src _ _ name names _ q e (measured _ _ (minus .minus .ensures .1) (free-of .free-of .ensures .1) refl)
+    (arg .arg .ensures .1 .1 src l) (rest .rest .ensures .1 .1 src l₁) (node .node .ensures .1 .1)))))

@@ -39,30 +39,41 @@ whole-ok t =
     cycle.Lts-whole.spec (whole-cs t .claims) (at whole-rank t) (whole-rank .post) (λ c κs. tt) (λ c κs. omega arith)
     (λ c κs. let e = c .before .before .before .unit in past-part refl (e .ensures) (e .kept .0)) (λ c κs. tt) (λ c κs. tt) (λ c κs. tt)
     (λ c κs. c .before .before .before .before .before .before .kind-here .ensures .0) (λ c κs. pair (omega arith) (c .before .place-of .ensures .0))
-    (λ c κs. let tail = c .before .before .before in let start = tail .before .before .before .before .before .before .before .before .before .before
-    .before .before .before .before .before .before .before .before in pair (omega (arith, start .pre .0)) (past-part refl (tail .tail .ensures)
-    (tail .tail .kept .0)))
+    -- tails-requires
+    (λ c κs. let tail = c .before .before .before in let start
+    = tail .before .before .before .before .before .before .before .before .before .before .before .before .before .before .before .before .before
+    .before in pair (omega (arith, start .pre .0)) (past-part refl (tail .tail .ensures) (tail .tail .kept .0)))
+    -- cast-node
     (λ c. let place-of = c .before .before .before .before .before .before .before .before .before in let minus = place-of .before .before in
     let free-of2 = minus .before in let small = size-small _ (minus .minus .ensures .1) (free-of2 .free-of2 .ensures .1)
-    (place-of .place-of .ensures .0) in omega arith) (λ c κs. tt)
+    (place-of .place-of .ensures .0) in omega arith)
+    (λ c κs. tt)
+    -- node-requires
     (λ c κs. ready-leaves (c .before .before .before .before .tails .ensures .1 .0) (c .before .before .before .before .tails .kept .0) refl
     (ready-leaves (c .before .before .before .before .before .before .before .before .tail .ensures .1 .0)
     (c .before .before .before .before .before .before .before .before .tail .kept .0) refl
     (c .before .before .before .before .before .before .before .before .tail .ensures .0 .1)))
+    -- same-length
     (λ c. let node = c .before .before in let tails = node .before .before .before .before .before in
-    let tail = tails .before .before .before .before in let unit = tail .before .before .before .before .before .before .before .before .before
-    .before .before .before .before in node .node .kept .0 ∙ tails .tails .kept .0 ∙ tail .tail .kept .0 ∙ unit .unit .kept .0)
+    let tail = tails .before .before .before .before in let unit
+    = tail .before .before .before .before .before .before .before .before .before .before .before .before .before in
+    node .node .kept .0 ∙ tails .tails .kept .0 ∙ tail .tail .kept .0 ∙ unit .unit .kept .0)
+    -- returns
     (λ c. let node = c .before .before in let suffixed-kind = node .before in let tails = suffixed-kind .before .before .before .before in
     let tail = tails .before .before .before .before in let place-of = tail .before .before in let minus = place-of .before .before in
     let free-of2 = minus .before in let if1 = free-of2 .before .before in let is-suffix = if1 .before in let kind-here = is-suffix .before in
-    let unit = kind-here .before .before .before .before in let free-of = unit .before .before in leaves ((λ src l d. let l₁ = lies-still l
-    (unit .unit .ensures .1 .0 .kept) in suffixed-more l₁ _ _ (kind-here .kind-here .ensures .1 src l₁) d (sym (is-suffix .is-suffix .ensures .1) ∙
-    if1 .if1 .taken) (free-of .free-of .ensures .1) (measured _ _ (minus .minus .ensures .1) (free-of2 .free-of2 .ensures .1) (unit .unit .kept .0))
+    let unit = kind-here .before .before .before .before in let free-of = unit .before .before in
+    leaves ((λ src l d. let l₁ = lies-still l (unit .unit .ensures .1 .0 .kept) in
+    suffixed-more l₁ _ _ (kind-here .kind-here .ensures .1 src l₁) d (sym (is-suffix .is-suffix .ensures .1) ∙ if1 .if1 .taken)
+    (free-of .free-of .ensures .1) (measured _ _ (minus .minus .ensures .1) (free-of2 .free-of2 .ensures .1) (unit .unit .kept .0))
     (place-of .place-of .ensures .1) (suffixed-kind .suffixed-kind .ensures .1)) from unit .unit .ensures .1 with of-kind
-    (kind-here .kind-here .ensures .1) (tail .tail .ensures .1) with tails .tails .ensures .1 adding node .node .ensures .1) refl) (λ c. omega arith)
-    (λ c. let is-suffix = c .before in let kind-here = is-suffix .before in let unit = kind-here .before .before .before .before in leaves ((λ src l
-    d. let l₁ = lies-still l (unit .unit .ensures .1 .0 .kept) in suffixed-one l₁ 0 _ (kind-here .kind-here .ensures .1 src l₁) d (sym
-    (is-suffix .is-suffix .ensures .1) ∙ c .if1 .left)) from unit .unit .ensures .1) refl)
+    (kind-here .kind-here .ensures .1) (tail .tail .ensures .1) with tails .tails .ensures .1 adding node .node .ensures .1) refl)
+    (λ c. omega arith)
+    -- returns-2
+    (λ c. let is-suffix = c .before in let kind-here = is-suffix .before in let unit = kind-here .before .before .before .before in
+    leaves ((λ src l d. let l₁ = lies-still l (unit .unit .ensures .1 .0 .kept) in
+    suffixed-one l₁ 0 _ (kind-here .kind-here .ensures .1 src l₁) d (sym (is-suffix .is-suffix .ensures .1) ∙ c .if1 .left)) from
+    unit .unit .ensures .1) refl)
 
 abbrev pub unit-cs : ℕ → Calls cycle.Lts-unit.Claims
 unit-cs t = calls-4 kind-here (below nest-rank t) (below valof-rank t) atom
@@ -88,11 +99,12 @@ nest-ok t =
     (λ c. omega arith) (λ c κs. pair (omega arith) (pair (past-symbol refl (c .before .expect .ensures)) (omega arith)))
     (λ c κs. let e = c .before .before .before .expr in pair (past-expression refl (e .ensures) (e .kept .0)) (omega arith))
     (λ c κs. past-symbol refl (c .before .expect2 .ensures)) (λ c. omega arith)
+    -- returns-2
     (λ c. let node = c .before .before in let expect2 = node .before .before in let expr = expect2 .before .before .before .before in
     let expect = expr .before .before in let place-here = expect .before .before in let free-of = place-here .before .before in
-    let if1 = free-of .before .before in leaves ((λ src l. bracketed-read l _ _ (free-of .free-of .ensures .1) (place-here .place-here .ensures .1 src
-    l) (if1 .if1 .left)) from expect .expect .ensures .1 with expr .expr .ensures .1 with expect2 .expect2 .ensures .1 adding node .node .ensures .1)
-    refl)
+    let if1 = free-of .before .before in leaves
+    ((λ src l. bracketed-read l _ _ (free-of .free-of .ensures .1) (place-here .place-here .ensures .1 src l) (if1 .if1 .left)) from
+    expect .expect .ensures .1 with expr .expr .ensures .1 with expect2 .expect2 .ensures .1 adding node .node .ensures .1) refl)
 
 abbrev pub valof-cs : ℕ → Calls cycle.Lts-valof.Claims
 valof-cs t = calls-6 refuse free-of place-here expect (below cmd-rank t) node
@@ -102,12 +114,14 @@ valof-ok t =
     cycle.Lts-valof.spec (valof-cs t .claims) (at valof-rank t) (valof-rank .post) (λ c κs. omega arith) (λ c. omega arith)
     (λ c. valof-shut _ (c .before .before .if1 .taken) (c .refuse .ensures .1)) (λ c κs. tt) (λ c κs. omega arith) (λ c κs. omega arith)
     (λ c. omega arith) (λ c κs. pair (omega arith) (past-symbol refl (c .before .expect .ensures)))
-    (λ c κs. ready-leaves (c .before .before .before .cmd .ensures .1 .0) (c .before .before .before .cmd .kept .0) refl (past-symbol refl
-    (c .before .before .before .before .before .expect .ensures))) (λ c. omega arith)
+    (λ c κs. ready-leaves (c .before .before .before .cmd .ensures .1 .0) (c .before .before .before .cmd .kept .0) refl
+    (past-symbol refl (c .before .before .before .before .before .expect .ensures)))
+    (λ c. omega arith)
+    -- returns-2
     (λ c. let node = c .before .before in let cmd = node .before .before .before .before in let expect = cmd .before .before in
-    let place-here = expect .before .before in let free-of = place-here .before .before in let if1 = free-of .before .before in leaves ((λ src l.
-    valof-read l _ _ (free-of .free-of .ensures .1) (place-here .place-here .ensures .1 src l) (if1 .if1 .left)) from expect .expect .ensures .1 with
-    cmd .cmd .ensures .1 adding node .node .ensures .1) refl)
+    let place-here = expect .before .before in let free-of = place-here .before .before in let if1 = free-of .before .before in
+    leaves ((λ src l. valof-read l _ _ (free-of .free-of .ensures .1) (place-here .place-here .ensures .1 src l) (if1 .if1 .left)) from
+    expect .expect .ensures .1 with cmd .cmd .ensures .1 adding node .node .ensures .1) refl)
 
 abbrev pub tail-cs : ℕ → Calls cycle.Lts-tail.Claims
 tail-cs t = calls-2 (below call-rank t) (below index-rank t)
@@ -134,16 +148,23 @@ tails-ok t =
     cycle.Lts-tails.spec (tails-cs t .claims) (at tails-rank t) (tails-rank .post) tails-inv tails-turns (λ c κs. tt)
     (λ c. so-begins (c .before .before .pre .1) suffix-first)
     (λ c κs. ready-leaves (c .before .before .loop .inv .room) (c .before .before .loop .inv .same) refl
-    (c .before .before .before .before .before .pre .1)) (λ c κs. tt)
+    (c .before .before .before .before .before .pre .1))
+    (λ c κs. tt)
     (λ c κs. pair (omega arith) (ready-leaves (c .before .before .before .before .before .before .loop .inv .room)
     (c .before .before .before .before .before .before .loop .inv .same) refl
-    (c .before .before .before .before .before .before .before .before .before .pre .1))) (λ c. omega arith) (λ c. omega arith)
+    (c .before .before .before .before .before .before .before .before .before .pre .1)))
+    (λ c. omega arith) (λ c. omega arith)
+    -- loop-again
     (λ c. let tail = c .before .before in let if1 = tail .before .before in let is-suffix = if1 .before in let kind-here = is-suffix .before in
-    let in-loop = kind-here .before .before .before in many-turns _ _ _ _ suffix-next (in-loop .loop .inv) (kind-here .kind-here .ensures .1) (sym
-    (is-suffix .is-suffix .ensures .1) ∙ if1 .if1 .taken) (tail .tail .ensures .1) (tail .tail .kept .0) (omega arith)) (λ c. omega arith)
+    let in-loop = kind-here .before .before .before in
+    many-turns _ _ _ _ suffix-next (in-loop .loop .inv) (kind-here .kind-here .ensures .1) (sym (is-suffix .is-suffix .ensures .1) ∙ if1 .if1 .taken)
+    (tail .tail .ensures .1) (tail .tail .kept .0) (omega arith))
+    (λ c. omega arith)
+    -- returns
     (λ c. let is-suffix = c .before in let kind-here = is-suffix .before in let in-loop = kind-here .before .before .before in
     let minus = in-loop .before in many-ends _ _ _ _ suffix-last no-suffix-ended (minus .minus .ensures .1) (in-loop .loop .inv)
-    (kind-here .kind-here .ensures .1) (sym (is-suffix .is-suffix .ensures .1) ∙ c .if1 .left)) (λ c. omega arith)
+    (kind-here .kind-here .ensures .1) (sym (is-suffix .is-suffix .ensures .1) ∙ c .if1 .left))
+    (λ c. omega arith)
     (λ c. many-spent _ _ _ _ suffix-last no-suffix-ended (c .before .before .minus .ensures .1) (c .before .loop .inv) (omega arith))
 
 abbrev pub call-cs : ℕ → Calls cycle.Lts-call.Claims
@@ -154,12 +175,14 @@ call-ok t =
     cycle.Lts-call.spec (call-cs t .claims) (at call-rank t) (call-rank .post) (λ c κs. omega arith) (λ c. omega arith)
     (λ c. arguments-shut _ (c .before .before .if1 .taken) (c .refuse .ensures .1)) (λ c κs. tt) (λ c κs. omega arith) (λ c. omega arith)
     (λ c κs. pair (omega arith) (past-symbol refl (c .before .expect .ensures)))
-    (λ c κs. ready-leaves (c .before .before .before .pass .ensures .1 .0) (c .before .before .before .pass .kept .0) refl (ready-part
-    (c .before .before .before .pass .ensures .0 .1) refl)) (λ c. omega arith)
+    (λ c κs. ready-leaves (c .before .before .before .pass .ensures .1 .0) (c .before .before .before .pass .kept .0) refl
+    (ready-part (c .before .before .before .pass .ensures .0 .1) refl))
+    (λ c. omega arith)
+    -- returns-2
     (λ c. let close-item = c .before .before in let pass = close-item .before .before .before .before in let expect = pass .before .before in
-    let free-of = expect .before .before in let if1 = free-of .before .before in leaves ((λ src l. arguments-read src _ _
-    (free-of .free-of .ensures .1) (if1 .if1 .left)) from expect .expect .ensures .1 with pass .pass .ensures .1 adding
-    close-item .close-item .ensures .1) refl)
+    let free-of = expect .before .before in let if1 = free-of .before .before in
+    leaves ((λ src l. arguments-read src _ _ (free-of .free-of .ensures .1) (if1 .if1 .left)) from expect .expect .ensures .1 with
+    pass .pass .ensures .1 adding close-item .close-item .ensures .1) refl)
 
 abbrev pub pass-cs : ℕ → Calls cycle.Lts-pass.Claims
 pass-cs t = calls-4 kind-here expect (below arg-rank t) (below also-rank t)
@@ -171,15 +194,18 @@ pass-ok t =
       leaves-less (c .expect .ensures .1 .0) refl,
       λ src l. no-arguments src _ (c .before .before .before .kind-here .ensures .1 src l)
           (c .before .before .if1 .taken) (c .expect .ensures .1 .1 src l),
-    )) (λ c κs. omega arith)
-    (λ c κs. pair (omega arith) (ready-takes (c .before .before .before .arg .ensures .1 .0) (c .before .before .before .arg .kept .0) (ready-part
-    (c .before .before .before .arg .ensures .0 .1) refl)))
+    ))
+    (λ c κs. omega arith)
+    (λ c κs. pair (omega arith) (ready-takes (c .before .before .before .arg .ensures .1 .0) (c .before .before .before .arg .kept .0)
+    (ready-part (c .before .before .before .arg .ensures .0 .1) refl)))
     (λ c κs. let e = c .before .before .before .also in pair (past-part refl (e .ensures) (e .kept .0)) (omega arith)) (λ c. omega arith)
+    -- returns-2
     (λ c. let also = c .before .before .before .before in let arg = also .before .before .before .before in let if1 = arg .before .before in
-    let kind-here = if1 .before in pair (room-left (taken (arg .arg .ensures .1 .0) plus (also .also .ensures .1 .0) plus (c .expect2 .ensures .1 .0))
-    refl) (λ src l. (let l₁ = lies-still l (arg .arg .ensures .1 .0 .kept) in let l₂ = lies-still l₁ (also .also .ensures .1 .0 .kept) in
-    some-arguments src _ (kind-here .kind-here .ensures .1 src l) 0 (l .count) (if1 .if1 .left) (arg .arg .ensures .1 .1 src l) (again (Encodes
-    encodeExpressions) (λ es w h. record { same = h .same }) (also .also .ensures .1 .1 src l₁)) (c .expect2 .ensures .1 .1 src l₂))))
+    let kind-here = if1 .before in pair (room-left
+    (taken (arg .arg .ensures .1 .0) plus (also .also .ensures .1 .0) plus (c .expect2 .ensures .1 .0)) refl)
+    (λ src l. (let l₁ = lies-still l (arg .arg .ensures .1 .0 .kept) in let l₂ = lies-still l₁ (also .also .ensures .1 .0 .kept) in
+    some-arguments src _ (kind-here .kind-here .ensures .1 src l) 0 (l .count) (if1 .if1 .left) (arg .arg .ensures .1 .1 src l)
+    (again (Encodes encodeExpressions) (λ es w h. record { same = h .same }) (also .also .ensures .1 .1 src l₁)) (c .expect2 .ensures .1 .1 src l₂))))
 
 abbrev pub arg-cs : ℕ → Calls cycle.Lts-arg.Claims
 arg-cs t = calls-4 free-of begin-item (below expr-rank t) set-size
@@ -187,15 +213,20 @@ arg-cs t = calls-4 free-of begin-item (below expr-rank t) set-size
 pub arg-ok : {M : Type 1} (t : ℕ) → cycle.Lts-arg.Closed (arg-cs t .claims) (at arg-rank t) (arg-rank .post) M
 arg-ok t =
     cycle.Lts-arg.spec (arg-cs t .claims) (at arg-rank t) (arg-rank .post) (λ c κs. tt) (λ c κs. omega arith)
+    -- expr-requires
     (λ c κs. pair (omega arith) (pair (ready-takes (c .before .before .before .begin-item .ensures .1 .0)
     (c .before .before .before .begin-item .kept .0) (c .before .before .before .begin-item .ensures .0)) (omega arith)))
+    -- set-size-requires
     (λ c κs. let expr = c .before .before .before in let begin-item = expr .before .before .before .before in
-    let free-of = begin-item .before .before in pair (past-expression refl (expr .expr .ensures) (expr .expr .kept .0)) (item-low
-    (free-of .free-of .ensures .1) (ready-part (begin-item .begin-item .ensures .0) refl))) (λ c. omega arith)
+    let free-of = begin-item .before .before in
+    pair (past-expression refl (expr .expr .ensures) (expr .expr .kept .0))
+    (item-low (free-of .free-of .ensures .1) (ready-part (begin-item .begin-item .ensures .0) refl)))
+    (λ c. omega arith)
+    -- returns
     (λ c. let set-size = c .before .before in let expr = set-size .before .before .before .before in
-    let begin-item = expr .before .before .before .before in let free-of = begin-item .before .before in takes ((λ src l. argument-read src _ _
-    (free-of .free-of .ensures .1) (low (begin-item .begin-item .ensures .0))) writing begin-item .begin-item .ensures .1 with expr .expr .ensures .1
-    setting set-size .set-size .ensures .1) refl)
+    let begin-item = expr .before .before .before .before in let free-of = begin-item .before .before in
+    takes ((λ src l. argument-read src _ _ (free-of .free-of .ensures .1) (low (begin-item .begin-item .ensures .0))) writing
+    begin-item .begin-item .ensures .1 with expr .expr .ensures .1 setting set-size .set-size .ensures .1) refl)
 
 abbrev pub also-cs : ℕ → Calls cycle.Lts-also.Claims
 also-cs t = calls-3 kind-here expect (below arg-rank t)
@@ -213,16 +244,19 @@ also-ok t =
     cycle.Lts-also.spec (also-cs t .claims) (at also-rank t) (also-rank .post) also-inv also-turns
     (λ c. (so-begins (c .before .pre .1) expression-first, refl))
     (λ c κs. ready-leaves (c .before .before .loop .inv .0 .room) (c .before .before .loop .inv .0 .same) refl
-    (c .before .before .before .before .pre .1)) (λ c. omega arith)
+    (c .before .before .before .before .pre .1))
+    (λ c. omega arith)
     (λ c. many-ends _ _ _ _ expression-last no-expression-counted refl (c .before .before .before .before .loop .inv .0)
     (c .before .kind-here .ensures .1) (ne-eqb _ _ (c .if1 .taken)))
     (λ c κs. pair (c .before .before .kind-here .ensures .0) (omega arith))
     (λ c κs. pair (omega arith) (past-symbol refl (c .before .expect .ensures))) (λ c. omega arith) (λ c. omega arith) (λ c. omega arith)
+    -- loop-again
     (λ c. let arg = c .before .before in let expect = arg .before .before in let if1 = expect .before .before in let kind-here = if1 .before in
-    let in-loop = kind-here .before .before .before in pair (many-turns _ _ _ _ expression-next (in-loop .loop .inv .0)
-    (kind-here .kind-here .ensures .1) (eq-eqb _ _ (if1 .if1 .left)) (at-any (further-reads _ (expect .expect .ensures .1) (arg .arg .ensures .1)))
-    (arg .arg .kept .0) (omega arith)) (omega (arith, in-loop .loop .inv .1))) (λ c. omega arith)
-    (λ c. many-spent _ _ _ _ expression-last no-expression-counted refl (c .before .loop .inv .0) (omega arith))
+    let in-loop = kind-here .before .before .before in
+    pair (many-turns _ _ _ _ expression-next (in-loop .loop .inv .0) (kind-here .kind-here .ensures .1) (eq-eqb _ _ (if1 .if1 .left))
+    (at-any (further-reads _ (expect .expect .ensures .1) (arg .arg .ensures .1))) (arg .arg .kept .0) (omega arith))
+    (omega (arith, in-loop .loop .inv .1)))
+    (λ c. omega arith) (λ c. many-spent _ _ _ _ expression-last no-expression-counted refl (c .before .loop .inv .0) (omega arith))
 
 abbrev pub rest-cs : ℕ → Calls cycle.Lts-rest.Claims
 rest-cs t = calls-2 expect (below arg-rank t)
@@ -240,12 +274,15 @@ rest-ok t =
     (λ c κs. pair (ready-leaves (c .before .before .loop .inv .room) (c .before .before .loop .inv .same) refl
     (c .before .before .before .before .pre .1)) (omega arith))
     (λ c κs. pair (omega arith) (past-symbol refl (c .before .expect .ensures))) (λ c. omega arith) (λ c. omega arith)
+    -- loop-again
     (λ c. let arg = c .before .before in let expect = arg .before .before in let in-loop = expect .before .before .before in
-    let start = in-loop .before .before in so-turns (in-loop .loop .inv) (C.further (readers (within (start .args .levels))) (in-loop .loop .left -
-    1)) value-next (further-reads _ (expect .expect .ensures .1) (arg .arg .ensures .1)) (arg .arg .kept .0) (λ src l at free e. value-turn
-    (start .args .levels) src (in-loop .loop .left) at (omega arith))) (λ c. omega arith)
-    (λ c. so-ends (c .before .loop .inv) T.noExpressions before-last (wordless no-expression-words) (λ src l at free e. value-last
-    (c .before .before .before .args .levels) src _ at (omega arith)))
+    let start = in-loop .before .before in so-turns (in-loop .loop .inv)
+    (C.further (readers (within (start .args .levels))) (in-loop .loop .left - 1)) value-next
+    (further-reads _ (expect .expect .ensures .1) (arg .arg .ensures .1)) (arg .arg .kept .0)
+    (λ src l at free e. value-turn (start .args .levels) src (in-loop .loop .left) at (omega arith)))
+    (λ c. omega arith)
+    (λ c. so-ends (c .before .loop .inv) T.noExpressions before-last (wordless no-expression-words)
+    (λ src l at free e. value-last (c .before .before .before .args .levels) src _ at (omega arith)))
 
 abbrev pub index-cs : ℕ → Calls cycle.Lts-index.Claims
 index-cs t = calls-4 free-of expect (below key-rank t) close-item
@@ -254,11 +291,14 @@ pub index-ok : {M : Type 1} (t : ℕ) → cycle.Lts-index.Closed (index-cs t .cl
 index-ok t =
     cycle.Lts-index.spec (index-cs t .claims) (at index-rank t) (index-rank .post) (λ c κs. tt) (λ c κs. omega arith)
     (λ c κs. pair (omega arith) (past-symbol refl (c .before .expect .ensures)))
-    (λ c κs. ready-leaves (c .before .before .before .key .ensures .1 .0) (c .before .before .before .key .kept .0) refl (past-symbol refl
-    (c .before .before .before .before .before .expect .ensures))) (λ c. omega arith)
+    (λ c κs. ready-leaves (c .before .before .before .key .ensures .1 .0) (c .before .before .before .key .kept .0) refl
+    (past-symbol refl (c .before .before .before .before .before .expect .ensures)))
+    (λ c. omega arith)
+    -- returns
     (λ c. let close-item = c .before .before in let key = close-item .before .before .before .before in let expect = key .before .before in
-    let free-of = expect .before .before in leaves ((λ src l. index-read src _ _ (free-of .free-of .ensures .1)) from expect .expect .ensures .1 with
-    key .key .ensures .1 adding close-item .close-item .ensures .1) refl)
+    let free-of = expect .before .before in leaves
+    ((λ src l. index-read src _ _ (free-of .free-of .ensures .1)) from expect .expect .ensures .1 with key .key .ensures .1 adding
+    close-item .close-item .ensures .1) refl)
 
 abbrev pub key-cs : ℕ → Calls cycle.Lts-key.Claims
 key-cs t = calls-4 kind-here is-monadic (below monad-rank t) (below unit-rank t)
@@ -266,10 +306,14 @@ key-cs t = calls-4 kind-here is-monadic (below monad-rank t) (below unit-rank t)
 pub key-ok : {M : Type 1} (t : ℕ) → cycle.Lts-key.Closed (key-cs t .claims) (at key-rank t) (key-rank .post) M
 key-ok t =
     cycle.Lts-key.spec (key-cs t .claims) (at key-rank t) (key-rank .post) (λ c κs. omega arith) (λ c κs. tt)
-    (λ c κs. let if1 = c .before in let is-monadic = if1 .before in let start = is-monadic .before .before .before .before in pair (omega arith) (pair
-    (start .pre .1) (monadic-positive _ (is-monadic .is-monadic .ensures .1) (if1 .if1 .taken)))) (λ c κs. omega arith) (λ c. omega arith)
+    -- monad-requires
+    (λ c κs. let if1 = c .before in let is-monadic = if1 .before in let start = is-monadic .before .before .before .before in
+    pair (omega arith) (pair (start .pre .1) (monadic-positive _ (is-monadic .is-monadic .ensures .1) (if1 .if1 .taken))))
+    (λ c κs. omega arith) (λ c. omega arith)
+    -- returns
     (λ c. let monad = c .before .before in let if1 = monad .before .before in let is-monadic = if1 .before in let kind-here = is-monadic .before in
     subscript-monadic _ (kind-here .kind-here .ensures .1) (is-monadic .is-monadic .ensures .1) (if1 .if1 .taken) (monad .monad .ensures .1))
     (λ c. omega arith)
+    -- returns-2
     (λ c. let unit = c .before .before in let if1 = unit .before .before in let is-monadic = if1 .before in let kind-here = is-monadic .before in
     subscript-primary _ (kind-here .kind-here .ensures .1) (is-monadic .is-monadic .ensures .1) (if1 .if1 .left) (unit .unit .ensures .1))
