@@ -9,8 +9,8 @@ note-spec =
     (search needs) (search needs)
     (λ c. omega (arith, c .before .before .before .before .slice-known .given (c .before .before .before .before .before .args .i / 8)))
     -- cast-seen
-    (λ c. let fits = flag-fits (c .before .before .before .before .before .args .seen .now) (c .before .before .before .before .before .args .i) refl
-    (c .before .power .ensures .0) (c .if2 .taken)
-    (omega (arith, c .before .before .before .before .slice-known .given (c .before .before .before .before .before .args .i / 8))) in omega arith)
+    (λ c. let args = c .before .before .before .before .before .args in
+    let fits = flag-fits (args .seen .now) (args .i) refl (c .before .power .ensures .0) (c .if2 .taken)
+    (omega (arith, c .before .before .before .before .slice-known .given (args .i / 8))) in omega arith)
     (search needs) (search needs) (λ c. search note-first) (search needs)
     (λ c. note-again refl (c .before .before .power .ensures .0) (c .before .if2 .left) (c .wrong .ensures)) (λ c. search note-none))

@@ -91,8 +91,7 @@ pick-ok t =
     (λ c. let expect2 = c .before .before .before .before .before .before .before .before .before .before .before in
     let minus = expect2 .before .before in let free-of2 = minus .before in
     let small = size-small _ (minus .minus .ensures .1) (free-of2 .free-of2 .ensures .1) (expect2 .expect2 .ensures .0 .0) in omega arith)
-    (λ c κs. ready-leaves (c .before .before .before .list .ensures .1 .0) (c .before .before .before .list .kept .0) refl
-    (c .before .before .before .list .ensures .0 .1))
+    (λ c κs. let list = c .before .before .before .list in ready-leaves (list .ensures .1 .0) (list .kept .0) refl (list .ensures .0 .1))
     (λ c. let node = c .before .before in let at-list = node .before .before .before .before in let item = at-list .before .before .before .before in
     let expr = item .before .before .before .before .before .before .before .before .before .before .before in
     node .node .kept .0 ∙ at-list .list .kept .0 ∙ item .item .kept .0 ∙ expr .expr .kept .0)
@@ -112,8 +111,8 @@ item-cs t = calls-4 free-of begin-item (below cmd-rank t) set-size
 pub item-ok : {M : Type 1} (t : ℕ) → cycle.Lts-item.Closed (item-cs t .claims) (at item-rank t) (item-rank .post) M
 item-ok t =
     cycle.Lts-item.spec (item-cs t .claims) (at item-rank t) (item-rank .post) (λ c κs. tt) (λ c κs. omega arith)
-    (λ c κs. pair (omega arith) (ready-takes (c .before .before .before .begin-item .ensures .1 .0) (c .before .before .before .begin-item .kept .0)
-    (c .before .before .before .begin-item .ensures .0)))
+    (λ c κs. let begin-item = c .before .before .before .begin-item in
+    pair (omega arith) (ready-takes (begin-item .ensures .1 .0) (begin-item .kept .0) (begin-item .ensures .0)))
     -- set-size-requires
     (λ c κs. let cmd = c .before .before .before in let begin-item = cmd .before .before .before .before in
     let free-of = begin-item .before .before in
@@ -170,8 +169,8 @@ pub till-ok : {M : Type 1} (t : ℕ) → cycle.Lts-till.Closed (till-cs t .claim
 till-ok t =
     cycle.Lts-till.spec (till-cs t .claims) (at till-rank t) (till-rank .post) (λ c κs. omega arith) (λ c κs. omega arith) (λ c κs. omega arith)
     (λ c κs. pair (past-symbol refl (c .before .expect2 .ensures)) (omega arith)) (λ c κs. omega arith)
-    (λ c κs. pair (omega arith) (ready-takes (c .before .before .before .item .ensures .1 .0) (c .before .before .before .item .kept .0)
-    (c .before .before .before .item .ensures .0 .1)))
+    (λ c κs. let item = c .before .before .before .item in
+    pair (omega arith) (ready-takes (item .ensures .1 .0) (item .kept .0) (item .ensures .0 .1)))
     (λ c. omega arith)
     (λ c. no-commands _ (c .before .before .before .kind-here .ensures .1) (c .before .before .match .keys1) (c .expect .ensures .1))
     (λ c. omega arith)
@@ -197,8 +196,8 @@ block-ok t =
     -- cast-node
     (λ c. let till = c .before .before .before in let minus = till .before .before in let free-of2 = minus .before in
     let small = size-small _ (minus .minus .ensures .1) (free-of2 .free-of2 .ensures .1) (ready-part (till .till .ensures .0 .1) refl) in omega arith)
-    (λ c κs. ready-leaves (c .before .before .before .till .ensures .1 .0) (c .before .before .before .till .kept .0) refl
-    (ready-part (c .before .before .before .till .ensures .0 .1) refl))
+    (λ c κs. let till = c .before .before .before .till in
+    ready-leaves (till .ensures .1 .0) (till .kept .0) refl (ready-part (till .ensures .0 .1) refl))
     (λ c. omega arith)
     -- returns
     (λ c. let node = c .before .before in let till = node .before .before .before .before in let minus = till .before .before in
@@ -244,8 +243,8 @@ local-ok t =
     cycle.Lts-local.spec (local-cs t .claims) (at local-rank t) (local-rank .post) (λ c κs. tt) (λ c κs. omega arith)
     (λ c κs. past-symbol refl (c .before .expect .ensures)) (λ c κs. tt)
     -- a-name-requires
-    (λ c κs. ready-takes (c .before .before .before .before .before .begin-item .ensures .1 .0)
-    (c .before .before .before .before .before .begin-item .kept .0) (c .before .before .before .before .before .begin-item .ensures .0))
+    (λ c κs. let begin-item = c .before .before .before .before .before .begin-item in
+    ready-takes (begin-item .ensures .1 .0) (begin-item .kept .0) (begin-item .ensures .0))
     (λ c κs. let e = c .before .before .before .a-name in ready-leaves (e .ensures .1 .0) (e .kept .0) refl (e .ensures .0)) (λ c κs. tt) (λ c κs. tt)
     (λ c κs. tt)
     (λ c κs. let e = c .before .before .before .before .before .before .before .before .further-names in
@@ -256,8 +255,8 @@ local-ok t =
       arith,
       start .pre .0,
     )) (past-symbol refl (expect2 .expect2 .ensures)))
-    (λ c κs. pair (ready-takes (c .before .before .before .init .ensures .1 .0) (c .before .before .before .init .kept .0)
-    (c .before .before .before .init .ensures .0 .1)) (omega arith))
+    (λ c κs. let init = c .before .before .before .init in
+    pair (ready-takes (init .ensures .1 .0) (init .kept .0) (init .ensures .0 .1)) (omega arith))
     -- set-size-requires
     (λ c κs. let optional = c .before in let expect
     = optional .before .before .before .before .before .before .before .before .before .before .before .before .before .before .before .before .before
@@ -316,8 +315,8 @@ init-ok t =
       v .1,
     ))))))))
     (λ c κs. tt) (λ c κs. tt) (λ c κs. omega arith)
-    (λ c κs. pair (omega arith) (ready-takes (c .before .before .before .arg .ensures .1 .0) (c .before .before .before .arg .kept .0)
-    (ready-part (c .before .before .before .arg .ensures .0 .1) refl)))
+    (λ c κs. let arg = c .before .before .before .arg in
+    pair (omega arith) (ready-takes (arg .ensures .1 .0) (arg .kept .0) (ready-part (arg .ensures .0 .1) refl)))
     -- cast-node
     (λ c. let arg = c .before .before .before .before .before .before .before in let minus = arg .before .before in let free-of = minus .before in
     let small = size-small _ (minus .minus .ensures .1) (free-of .free-of .ensures .1) (ready-part (arg .arg .ensures .0 .1) refl) in omega arith)

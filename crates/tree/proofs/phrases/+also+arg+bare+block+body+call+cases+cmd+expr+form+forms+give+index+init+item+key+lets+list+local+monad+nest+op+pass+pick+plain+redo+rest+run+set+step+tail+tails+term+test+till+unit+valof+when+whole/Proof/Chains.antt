@@ -67,10 +67,9 @@ expr-ok t =
     let free-of2 = minus .before in let small = size-small _ (minus .minus .ensures .1) (free-of2 .free-of2 .ensures .1)
     (place-of .place-of .ensures .0) in omega arith)
     -- node-requires
-    (λ c κs. ready-leaves (c .before .before .before .run .ensures .1 .0) (c .before .before .before .run .kept .0) refl
-    (ready-leaves (c .before .before .before .before .before .before .before .op .ensures .1 .0)
-    (c .before .before .before .before .before .before .before .op .kept .0) refl
-    (c .before .before .before .before .before .before .before .op .ensures .0 .1 .0)))
+    (λ c κs. let op = c .before .before .before .before .before .before .before .op in
+    ready-leaves (c .before .before .before .run .ensures .1 .0) (c .before .before .before .run .kept .0) refl
+    (ready-leaves (op .ensures .1 .0) (op .kept .0) refl (op .ensures .0 .1 .0)))
     -- same-length-5
     (λ c. let node = c .before .before in let run = node .before .before .before .before in let op = run .before .before .before .before in
     let expr2 = op .before .before .before .before .before .before .before .before .before .before .before .before .before .before in
@@ -95,8 +94,8 @@ op-ok t =
     cycle.Lts-op.spec (op-cs t .claims) (at op-rank t) (op-rank .post) (λ c κs. tt) (λ c κs. omega arith)
     (λ c κs. past-symbol refl (c .before .expect .ensures))
     -- expr-requires
-    (λ c κs. pair (omega arith) (pair (ready-takes (c .before .before .before .begin-item .ensures .1 .0)
-    (c .before .before .before .begin-item .kept .0) (c .before .before .before .begin-item .ensures .0)) (omega arith)))
+    (λ c κs. let begin-item = c .before .before .before .begin-item in
+    pair (omega arith) (pair (ready-takes (begin-item .ensures .1 .0) (begin-item .kept .0) (begin-item .ensures .0)) (omega arith)))
     -- set-size-requires
     (λ c κs. let expr = c .before .before .before in let expect = expr .before .before .before .before .before .before in
     let free-of = expect .before .before in pair (past-expression refl (expr .expr .ensures) (expr .expr .kept .0))

@@ -191,8 +191,8 @@ form-ok t =
     leaves ((λ src l x y k. repeat-read src 0 _ k (c .if1 .taken) x y) from expect .expect .ensures .1 adding begin-item .begin-item .ensures .1)
     refl)
     -- expr-requires
-    (λ c κs. pair (omega arith) (pair (ready-takes (c .before .before .before .before .begin-item .ensures .1 .0)
-    (c .before .before .before .before .begin-item .kept .0) (c .before .before .before .before .begin-item .ensures .0)) (omega arith)))
+    (λ c κs. let begin-item = c .before .before .before .before .begin-item in
+    pair (omega arith) (pair (ready-takes (begin-item .ensures .1 .0) (begin-item .kept .0) (begin-item .ensures .0)) (omega arith)))
     -- set-size-requires
     (λ c κs. let expr = c .before .before .before in let expect = expr .before .before .before .before .before .before .before in
     let free-of = expect .before .before in pair (past-expression refl (expr .expr .ensures) (expr .expr .kept .0))

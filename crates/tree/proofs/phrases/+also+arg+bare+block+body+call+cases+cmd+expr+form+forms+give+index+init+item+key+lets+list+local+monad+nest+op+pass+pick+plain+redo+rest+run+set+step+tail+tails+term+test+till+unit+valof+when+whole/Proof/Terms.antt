@@ -49,10 +49,9 @@ whole-ok t =
     (place-of .place-of .ensures .0) in omega arith)
     (λ c κs. tt)
     -- node-requires
-    (λ c κs. ready-leaves (c .before .before .before .before .tails .ensures .1 .0) (c .before .before .before .before .tails .kept .0) refl
-    (ready-leaves (c .before .before .before .before .before .before .before .before .tail .ensures .1 .0)
-    (c .before .before .before .before .before .before .before .before .tail .kept .0) refl
-    (c .before .before .before .before .before .before .before .before .tail .ensures .0 .1)))
+    (λ c κs. let tail = c .before .before .before .before .before .before .before .before .tail in
+    ready-leaves (c .before .before .before .before .tails .ensures .1 .0) (c .before .before .before .before .tails .kept .0) refl
+    (ready-leaves (tail .ensures .1 .0) (tail .kept .0) refl (tail .ensures .0 .1)))
     -- same-length
     (λ c. let node = c .before .before in let tails = node .before .before .before .before .before in
     let tail = tails .before .before .before .before in let unit
@@ -175,8 +174,8 @@ call-ok t =
     cycle.Lts-call.spec (call-cs t .claims) (at call-rank t) (call-rank .post) (λ c κs. omega arith) (λ c. omega arith)
     (λ c. arguments-shut _ (c .before .before .if1 .taken) (c .refuse .ensures .1)) (λ c κs. tt) (λ c κs. omega arith) (λ c. omega arith)
     (λ c κs. pair (omega arith) (past-symbol refl (c .before .expect .ensures)))
-    (λ c κs. ready-leaves (c .before .before .before .pass .ensures .1 .0) (c .before .before .before .pass .kept .0) refl
-    (ready-part (c .before .before .before .pass .ensures .0 .1) refl))
+    (λ c κs. let pass = c .before .before .before .pass in
+    ready-leaves (pass .ensures .1 .0) (pass .kept .0) refl (ready-part (pass .ensures .0 .1) refl))
     (λ c. omega arith)
     -- returns-2
     (λ c. let close-item = c .before .before in let pass = close-item .before .before .before .before in let expect = pass .before .before in
@@ -196,8 +195,8 @@ pass-ok t =
           (c .before .before .if1 .taken) (c .expect .ensures .1 .1 src l),
     ))
     (λ c κs. omega arith)
-    (λ c κs. pair (omega arith) (ready-takes (c .before .before .before .arg .ensures .1 .0) (c .before .before .before .arg .kept .0)
-    (ready-part (c .before .before .before .arg .ensures .0 .1) refl)))
+    (λ c κs. let arg = c .before .before .before .arg in
+    pair (omega arith) (ready-takes (arg .ensures .1 .0) (arg .kept .0) (ready-part (arg .ensures .0 .1) refl)))
     (λ c κs. let e = c .before .before .before .also in pair (past-part refl (e .ensures) (e .kept .0)) (omega arith)) (λ c. omega arith)
     -- returns-2
     (λ c. let also = c .before .before .before .before in let arg = also .before .before .before .before in let if1 = arg .before .before in
@@ -214,8 +213,8 @@ pub arg-ok : {M : Type 1} (t : ℕ) → cycle.Lts-arg.Closed (arg-cs t .claims) 
 arg-ok t =
     cycle.Lts-arg.spec (arg-cs t .claims) (at arg-rank t) (arg-rank .post) (λ c κs. tt) (λ c κs. omega arith)
     -- expr-requires
-    (λ c κs. pair (omega arith) (pair (ready-takes (c .before .before .before .begin-item .ensures .1 .0)
-    (c .before .before .before .begin-item .kept .0) (c .before .before .before .begin-item .ensures .0)) (omega arith)))
+    (λ c κs. let begin-item = c .before .before .before .begin-item in
+    pair (omega arith) (pair (ready-takes (begin-item .ensures .1 .0) (begin-item .kept .0) (begin-item .ensures .0)) (omega arith)))
     -- set-size-requires
     (λ c κs. let expr = c .before .before .before in let begin-item = expr .before .before .before .before in
     let free-of = begin-item .before .before in
