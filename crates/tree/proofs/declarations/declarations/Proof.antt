@@ -19,8 +19,8 @@ abbrev μ-loop : tie.MeasureT-loop
 
 pub declarations-spec : {M : Type 1} → statement M
 declarations-spec =
-    tie.close (tie.spec Inv-loop μ-loop (λ c. so-begins (c .before .pre) before-first) (search needs) (λ _ _. tt)
-    (λ c κs. pair (search needs) (declaration-positive _ (c .before .before .is-declaration .ensures) (c .before .if1 .taken))) (search needs)
+    tie.close (tie.spec Inv-loop μ-loop (λ c. so-begins (c .before .pre) before-first) (λ c κs. omega arith) (λ _ _. tt)
+    (λ c κs. pair (omega arith) (declaration-positive _ (c .before .before .is-declaration .ensures) (c .before .if1 .taken))) (search needs)
     (λ c. omega arith)
     (λ c. let declared = c .before .before in let if1 = declared .before .before in let is-declaration = if1 .before in
     let kind-here = is-declaration .before in let in-loop = kind-here .before .before .before in many-turns _ _ _ _ before-next (in-loop .loop .inv)

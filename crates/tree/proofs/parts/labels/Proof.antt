@@ -20,8 +20,8 @@ abbrev μ-loop : tie.MeasureT-loop
 
 pub labels-spec : {M : Type 1} → statement M
 labels-spec =
-    tie.close (tie.spec Inv-loop μ-loop (λ _ _. tt) (λ c. so-begins (c .before .before .pre) before-first) (search needs) (λ _ _. tt) (search needs)
-    (search needs) (λ c. omega arith)
+    tie.close (tie.spec Inv-loop μ-loop (λ _ _. tt) (λ c. so-begins (c .before .before .pre) before-first) (λ c κs. omega arith) (λ _ _. tt)
+    (λ c κs. omega arith) (search needs) (λ c. omega arith)
     (λ c. let label = c .before .before in let if1 = label .before .before in let is-label = if1 .before in let kind-here = is-label .before in
     let in-loop = kind-here .before .before .before in many-turns _ _ _ _ before-next (in-loop .loop .inv) (kind-here .kind-here .ensures) (sym
     (is-label .is-label .ensures) ∙ if1 .if1 .taken) (label .label .ensures) (label .label .kept .0) (omega arith)) (search needs)
