@@ -18,8 +18,8 @@ abbrev μ-loop : tie.MeasureT-loop
 
 pub declarations-spec : {M : Type 1} → Rattle.tree.proofs.declarations.declarations.Statement.statement M
 declarations-spec =
-    tie.close (tie.spec Inv-loop μ-loop (λ c. so-begins (c .before .pre) before-first) (search needs) (λ _ _. tt)
-    (λ c κs. pair (search needs) (declaration-positive _ (c .before .before .is-declaration .ensures) (c .before .if1 .taken))) (search needs)
+    tie.close (tie.spec Inv-loop μ-loop (λ c. so-begins (c .before .pre) before-first) (λ c κs. omega arith) (λ _ _. tt)
+    (λ c κs. pair (omega arith) (declaration-positive _ (c .before .before .is-declaration .ensures) (c .before .if1 .taken))) (search needs)
     (λ c. omega arith)
     -- loop-again
     (λ c. let declared = c .before .before in let if1 = declared .before .before in let is-declaration = if1 .before in

@@ -20,10 +20,10 @@ abbrev μ-loop : tie.MeasureT-loop
 
 pub further-functions-spec : {M : Type 1} → Rattle.tree.proofs.declarations.further_functions.Statement.statement M
 further-functions-spec =
-    tie.close (tie.spec Inv-loop μ-loop (λ c. so-begins (c .before .pre) before-first) (search needs) (search needs)
+    tie.close (tie.spec Inv-loop μ-loop (λ c. so-begins (c .before .pre) before-first) (λ c κs. omega arith) (search needs)
     (λ c. many-ends _ _ _ _ before-last (wordless no-function-words) refl (c .before .before .before .before .loop .inv)
     (c .before .kind-here .ensures) (ne-eqb _ _ (c .if1 .taken)))
-    (search needs) (λ c κs. ready-leaves (c .before .expect .ensures .0) refl refl (search needs)) (search needs) (λ c. omega arith)
+    (λ c κs. omega arith) (λ c κs. ready-leaves (c .before .expect .ensures .0) refl refl (omega arith)) (search needs) (λ c. omega arith)
     -- loop-again
     (λ c. let function = c .before .before in let expect = function .before .before in let if1 = expect .before .before in
     let kind-here = if1 .before in let in-loop = kind-here .before .before .before in

@@ -19,8 +19,8 @@ abbrev μ-loop : tie.MeasureT-loop
 
 pub labels-spec : {M : Type 1} → Rattle.tree.proofs.parts.labels.Statement.statement M
 labels-spec =
-    tie.close (tie.spec Inv-loop μ-loop (λ _ _. tt) (λ c. so-begins (c .before .before .pre) before-first) (search needs) (λ _ _. tt) (search needs)
-    (search needs) (λ c. omega arith)
+    tie.close (tie.spec Inv-loop μ-loop (λ _ _. tt) (λ c. so-begins (c .before .before .pre) before-first) (λ c κs. omega arith) (λ _ _. tt)
+    (λ c κs. omega arith) (search needs) (λ c. omega arith)
     -- loop-again
     (λ c. let label = c .before .before in let if1 = label .before .before in let is-label = if1 .before in let kind-here = is-label .before in
     let in-loop = kind-here .before .before .before in

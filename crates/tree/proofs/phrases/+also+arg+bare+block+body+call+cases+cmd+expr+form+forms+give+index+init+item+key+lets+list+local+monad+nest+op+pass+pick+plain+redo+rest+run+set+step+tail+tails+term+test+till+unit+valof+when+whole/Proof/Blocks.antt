@@ -242,7 +242,6 @@ pub local-ok : {M : Type 1} (t : ℕ) → cycle.Lts-local.Closed (local-cs t .cl
 local-ok t =
     cycle.Lts-local.spec (local-cs t .claims) (at local-rank t) (local-rank .post) (λ c κs. tt) (λ c κs. omega arith)
     (λ c κs. past-symbol refl (c .before .expect .ensures)) (λ c κs. tt)
-    -- a-name-requires
     (λ c κs. let begin-item = c .before .before .before .before .before .begin-item in
     ready-takes (begin-item .ensures .1 .0) (begin-item .kept .0) (begin-item .ensures .0))
     (λ c κs. let e = c .before .before .before .a-name in ready-leaves (e .ensures .1 .0) (e .kept .0) refl (e .ensures .0)) (λ c κs. tt) (λ c κs. tt)

@@ -93,7 +93,6 @@ pub op-ok : {M : Type 1} (t : ℕ) → cycle.Lts-op.Closed (op-cs t .claims) (at
 op-ok t =
     cycle.Lts-op.spec (op-cs t .claims) (at op-rank t) (op-rank .post) (λ c κs. tt) (λ c κs. omega arith)
     (λ c κs. past-symbol refl (c .before .expect .ensures))
-    -- expr-requires
     (λ c κs. let begin-item = c .before .before .before .begin-item in
     pair (omega arith) (pair (ready-takes (begin-item .ensures .1 .0) (begin-item .kept .0) (begin-item .ensures .0)) (omega arith)))
     -- set-size-requires

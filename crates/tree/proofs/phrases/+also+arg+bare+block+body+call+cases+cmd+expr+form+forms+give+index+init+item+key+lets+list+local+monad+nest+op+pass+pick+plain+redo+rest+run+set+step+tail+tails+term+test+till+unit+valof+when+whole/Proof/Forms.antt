@@ -190,7 +190,6 @@ form-ok t =
     (λ c. let begin-item = c .before .before .before in let expect = begin-item .before .before in
     leaves ((λ src l x y k. repeat-read src 0 _ k (c .if1 .taken) x y) from expect .expect .ensures .1 adding begin-item .begin-item .ensures .1)
     refl)
-    -- expr-requires
     (λ c κs. let begin-item = c .before .before .before .before .begin-item in
     pair (omega arith) (pair (ready-takes (begin-item .ensures .1 .0) (begin-item .kept .0) (begin-item .ensures .0)) (omega arith)))
     -- set-size-requires

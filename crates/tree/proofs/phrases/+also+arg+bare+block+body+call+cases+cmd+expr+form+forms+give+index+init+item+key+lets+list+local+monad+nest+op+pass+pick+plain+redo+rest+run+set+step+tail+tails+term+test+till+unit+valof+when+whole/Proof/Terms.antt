@@ -212,7 +212,6 @@ arg-cs t = calls-4 free-of begin-item (below expr-rank t) set-size
 pub arg-ok : {M : Type 1} (t : ℕ) → cycle.Lts-arg.Closed (arg-cs t .claims) (at arg-rank t) (arg-rank .post) M
 arg-ok t =
     cycle.Lts-arg.spec (arg-cs t .claims) (at arg-rank t) (arg-rank .post) (λ c κs. tt) (λ c κs. omega arith)
-    -- expr-requires
     (λ c κs. let begin-item = c .before .before .before .begin-item in
     pair (omega arith) (pair (ready-takes (begin-item .ensures .1 .0) (begin-item .kept .0) (begin-item .ensures .0)) (omega arith)))
     -- set-size-requires
