@@ -6,7 +6,7 @@ use Rattle.language.specs.State.{State, Result, ok, step}
 use Rattle.language.specs.Run.{Flow, normal, broke, looped, ended, gave, Sem, executed, sequence, onwards, isTrue, same}
 use Rattle.code.specs.Generate.{Exits, exprCode, exprLabels, cmdCode, cmdLabels, cmdsCode}
 use Rattle.code.proofs.Results.{p-returned, p-finished, post-cond, post-demand, has-same}
-use Rattle.code.proofs.Machine.{Mach, goes-not}
+use Rattle.code.proofs.Machine.{Mach, leads-not}
 use Rattle.code.proofs.Standing.{Env, Code, cut, cut-number, cut-address, cut-label, at-end}
 use Rattle.code.proofs.Related.{Rel, Sim, Runs, at-finish, then, ending, weaken, in-a-step, over, ticked}
 use Rattle.code.proofs.Steps.{step-J, step-F, step-unless}
@@ -141,13 +141,13 @@ module _ (Γ : Env) where
     sim-return p h n a b x s v k f pc r =
         cut-number Γ k λ b₁ i₁ k₁.
         let t : Sim Γ 0 p h h s v (step s) v
-        = record { n = 0; goes = goes-not (Γ .input) v; rel = ticked Γ r; keep = λ y l g. g; frame = λ y l g. refl; time = omega arith } in
+        = record { n = 0; goes = leads-not (Γ .input) v; rel = ticked Γ r; keep = λ y l g. g; frame = λ y l g. refl; time = omega arith } in
         p-returned (record { h′ = h; v′ = v; sim = t; past = b₁; return = rw pc i₁ })
 
     pub sim-finish : GoalC q R.finish
     unfolding executed cmdCode
     sim-finish p h n a b x s v k f pc r =
-        cut-number Γ k λ b₁ i₁ k₁. p-finished (at-finish Γ {past = b₁} (goes-not (Γ .input) v) (ticked Γ r) (rw pc i₁) (omega arith))
+        cut-number Γ k λ b₁ i₁ k₁. p-finished (at-finish Γ {past = b₁} (leads-not (Γ .input) v) (ticked Γ r) (rw pc i₁) (omega arith))
 
     pub sim-sequence : (cs : Cmds) (n : ℕ) {p h a b : ℕ} {x : Exits} {s : State} {v : Mach} → Code Γ a (cmdsCode (suc (F Γ)) h n x cs) b
         → FormedB (F Γ) (S Γ) h cs

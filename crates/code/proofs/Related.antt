@@ -9,7 +9,7 @@ use Rattle.language.specs.State.{Cell, gone, holds, State, Result, ok, bind, st
 use Rattle.language.specs.Run.{reach}
 use Rattle.code.proofs.Results.{Post, p-unfinished, p-ok, p-returned, p-finished, p-undefined, post-map, post-bind, post-cond, Live}
 use Rattle.code.proofs.Results.{live-unset, live-holds}
-use Rattle.code.proofs.Machine.{Mach, Goes, goes-not, goes-on}
+use Rattle.code.proofs.Machine.{Mach, Leads, leads-not, leads-on}
 use Rattle.code.proofs.Standing.{Env, Agree, At}
 use Rattle.code.proofs.Instructions.{withMem}
 
@@ -54,7 +54,7 @@ module _ (Γ : Env) where
   -- within t instructions over 16 a step
   pub record Sim (t p h h′ : ℕ) (s : State) (v : Mach) (s′ : State) (v′ : Mach) : Type 0 where
     pub n : ℕ
-    pub goes : Goes (Γ .input) n v v′
+    pub goes : Leads (Γ .input) n v v′
     pub rel : Rel p h′ s′ v′
     pub keep : (a : ℕ) → a < p + h → s .cells a ≡ gone → s′ .cells a ≡ gone
     pub frame : (a : ℕ) → a < p + h → s .cells a ≡ gone → getD (v′ .mem) a 0 ≡ getD (v .mem) a 0
@@ -72,7 +72,7 @@ module _ (Γ : Env) where
   pub record Ends (t : ℕ) (s : State) (v : Mach) (s′ : State) : Type 0 where
     pub v′ : Mach
     pub n : ℕ
-    pub goes : Goes (Γ .input) n v v′
+    pub goes : Leads (Γ .input) n v v′
     pub past : ℕ
     pub finish : At Γ (v′ .regs .c) 7 false I.none 22 past
     pub agree : Agree Γ (v′ .mem)
@@ -96,7 +96,7 @@ module _ (Γ : Env) where
       → Sim t p h₁ h₂ s v s₁ v₁ → Sim t′ p h h₃ s₁ v₁ s₂ v₂ → Sim (t + t′) p h h₃ s v s₂ v₂
   seq-sim l x y = record {
     n = _;
-    goes = goes-on (Γ .input) (x .goes) (y .goes);
+    goes = leads-on (Γ .input) (x .goes) (y .goes);
     rel = y .rel;
     keep = λ a k g. y .keep a k (x .keep a (omega arith) g);
     frame = λ a k g. y .frame a k (x .keep a (omega arith) g) ∙ x .frame a (omega arith) g;
@@ -108,12 +108,12 @@ module _ (Γ : Env) where
   seq-leaves l x y = record { h′ = y .h′; v′ = y .v′; sim = seq-sim l x (y .sim); past = y .past; return = y .return }
 
   -- the same end, of a run that starts earlier and within other bounds
-  pub ends-from : {t t′ k : ℕ} {s u s′ : State} {v₀ v : Mach} → Goes (Γ .input) k v₀ v
+  pub ends-from : {t t′ k : ℕ} {s u s′ : State} {v₀ v : Mach} → Leads (Γ .input) k v₀ v
       → ((n m : ℕ) → n + 16 * u .steps ≤ t + 16 * m → k + n + 16 * s .steps ≤ t′ + 16 * m) → Ends t u v s′ → Ends t′ s v₀ s′
   ends-from g f e = record {
     v′ = e .v′;
     n = _;
-    goes = goes-on (Γ .input) g (e .goes);
+    goes = leads-on (Γ .input) g (e .goes);
     past = e .past;
     finish = e .finish;
     agree = e .agree;
@@ -124,8 +124,8 @@ module _ (Γ : Env) where
   }
 
   -- a run to a finish
-  pub at-finish : {t p h n past : ℕ} {s s′ : State} {v v′ : Mach} → Goes (Γ .input) n v v′ → Rel p h s′ v′ → At Γ (v′ .regs .c) 7 false I.none 22 past
-      → n + 16 * s .steps ≤ t + 16 * s′ .steps → Ends t s v s′
+  pub at-finish : {t p h n past : ℕ} {s s′ : State} {v v′ : Mach} → Leads (Γ .input) n v v′ → Rel p h s′ v′
+      → At Γ (v′ .regs .c) 7 false I.none 22 past → n + 16 * s .steps ≤ t + 16 * s′ .steps → Ends t s v s′
   at-finish {n = n} {past = past} {v′ = v′} g r i l = record {
     v′ = v′;
     n = n;
@@ -140,7 +140,7 @@ module _ (Γ : Env) where
   }
 
   pub more-ends : {t t′ : ℕ} {s s′ : State} {v : Mach} → Ends t s v s′ → t ≤ t′ → Ends t′ s v s′
-  more-ends {v = v} e l = ends-from (goes-not (Γ .input) v) (λ n m k. omega arith) e
+  more-ends {v = v} e l = ends-from (leads-not (Γ .input) v) (λ n m k. omega arith) e
 
   pub after : {A : Type 0} {Q : A → Mach → Type 0} {t t′ p h h₁ h₂ h₃ : ℕ} {s s₁ : State} {v v₁ : Mach} {x : Result A} → h ≤ h₁
       → Sim t p h₁ h₂ s v s₁ v₁ → Runs Q t′ p h h₃ s₁ v₁ x → Runs Q (t + t′) p h h₃ s v x
@@ -171,7 +171,7 @@ module _ (Γ : Env) where
       → Runs Q t p h₁ h₂ u v x → Runs Q t′ p h h₂ s v x
   loose {v = v} q z =
       post-map z (λ a s e. record { v′ = e .v′; sim = loose-sim q (e .sim); is = e .is }) (λ s e. loose-leaves q e)
-      (λ s e. ends-from (goes-not (Γ .input) v) (λ n m k. omega (arith, q .1 n m k)) e)
+      (λ s e. ends-from (leads-not (Γ .input) v) (λ n m k. omega (arith, q .1 n m k)) e)
 
   pub weaken : {A : Type 0} {Q : A → Mach → Type 0} {t t′ p h h₂ : ℕ} {s : State} {v : Mach} {x : Result A}
       → Runs Q t p h h₂ s v x → t ≤ t′ → Runs Q t′ p h h₂ s v x
@@ -211,7 +211,7 @@ module _ (Γ : Env) where
   ending l (p-ok e) g = after l (e .sim) (g _ _ (e .v′) (e .sim) (e .is))
 
   pub stay : {p h : ℕ} {s : State} {v : Mach} → Rel p h s v → Sim 0 p h h s v s v
-  stay {v = v} r = record { n = 0; goes = goes-not (Γ .input) v; rel = r; keep = λ a l g. g; frame = λ a l g. refl; time = omega arith }
+  stay {v = v} r = record { n = 0; goes = leads-not (Γ .input) v; rel = r; keep = λ a l g. g; frame = λ a l g. refl; time = omega arith }
 
   -- over, here
   pub over : {A : Type 0} {Q : A → Mach → Type 0} {p h₀ h : ℕ} {s : State} {v : Mach} {a : A} → h₀ ≤ h → Rel p h s v → Q a v
@@ -291,7 +291,7 @@ module _ (Γ : Env) where
       → ((a : ℕ) → p + h′ ≤ a → u .cells a ≡ gone) → u .output ≡ s .output → u .taken ≡ s .taken → s .steps ≤ u .steps → Sim 0 p h h′ s v u v
   open-scope {p} {h} {h′} {s} {u} {v} r l k same vals above eo et es = record {
     n = 0;
-    goes = goes-not (Γ .input) v;
+    goes = leads-not (Γ .input) v;
     rel = with-cells r l (λ a w g. by-order a (p + h) (λ j. r .vals a w (sym (same a j) ∙ g)) (λ j. vals a w j g)) above
         (λ a c. same a (omega (arith, r .base a c)) ∙ r .code-gone a c) eo et;
     keep = λ a j g. same a j ∙ g;
@@ -323,7 +323,7 @@ module _ (Γ : Env) where
   -- ---- instructions
 
   -- one that leaves memory, P and G alone, where input or output go on
-  pub spoken : {p h : ℕ} {s s′ : State} {v v′ : Mach} → Rel p h s v → Goes (Γ .input) 1 v v′
+  pub spoken : {p h : ℕ} {s s′ : State} {v v′ : Mach} → Rel p h s v → Leads (Γ .input) 1 v v′
       → v′ .mem ≡ v .mem → v′ .regs .p ≡ v .regs .p → v′ .regs .g ≡ v .regs .g → v′ .regs .taken ≡ s′ .taken → v′ .bytes ≡ s′ .output
       → ((a : ℕ) → s′ .cells a ≡ s .cells a) → s′ .steps ≡ s .steps → Sim 1 p h h s v s′ v′
   spoken r e em ep eg et eb ec es = record {
@@ -347,7 +347,7 @@ module _ (Γ : Env) where
   }
 
   -- and where they do not
-  pub quiet : {p h : ℕ} {s : State} {v v′ : Mach} → Rel p h s v → Goes (Γ .input) 1 v v′
+  pub quiet : {p h : ℕ} {s : State} {v v′ : Mach} → Rel p h s v → Leads (Γ .input) 1 v v′
       → v′ .mem ≡ v .mem → v′ .regs .p ≡ v .regs .p → v′ .regs .g ≡ v .regs .g → v′ .regs .taken ≡ v .regs .taken → v′ .bytes ≡ v .bytes
       → Sim 1 p h h s v s v′
   quiet r e em ep eg et eb = spoken r e em ep eg (et ∙ r .taken) (eb ∙ r .bytes) (λ a. refl) refl
@@ -362,7 +362,7 @@ module _ (Γ : Env) where
   storing b a v = withMem (M.havingStored a 1 (M.withC b (v .regs))) (set (v .mem) a (v .regs .a)) v
 
   -- a store to a word that waits
-  pub temp : {p h a b : ℕ} {s : State} {v : Mach} → Rel p h s v → Goes (Γ .input) 1 v (storing b a v) → p + h ≤ a → Sim 1 p h h s v s (storing b a v)
+  pub temp : {p h a b : ℕ} {s : State} {v : Mach} → Rel p h s v → Leads (Γ .input) 1 v (storing b a v) → p + h ≤ a → Sim 1 p h h s v s (storing b a v)
   temp {p} {h} {a} {b} {s} {v} r e k = record {
     n = _;
     goes = e;
@@ -392,7 +392,7 @@ module _ (Γ : Env) where
 
   -- a store to a live word
   pub cell : {p h a b w : ℕ} {s : State} {v : Mach} → Rel p h s v → a < length (Γ .image) → (s .cells a ≡ gone → ⊥) → v .regs .a ≡ w
-      → Goes (Γ .input) 1 v (storing b a v)
+      → Leads (Γ .input) 1 v (storing b a v)
       → Sim 1 p h h s v (put a (holds w) s) (storing b a v)
   cell {p} {h} {a} {b} {w} {s} {v} r la n ew e = record {
     n = _;

@@ -230,7 +230,8 @@ module _ (T functions strings : ℕ) (few : suc functions + strings ≤ T) where
     sound-t h n (R.toLocal k) l m f w y = let z : k < h + 1 = f in item (omega arith) s-none
     sound-t h n (R.toGlobal k) l m f w y = let z : k < 400 = f in item (omega arith) s-none
     sound-t h n (R.toContents e) l m f w y =
-        item (omega arith) (sounds-both (sound-e (h + 1) n e (w .0) m f (w .1) y) (item (omega arith) (item (omega arith) (item (omega arith) s-none))))
+        item (omega arith) (sounds-both (sound-e (h + 1) n e (w .0) m f (w .1) y)
+        (item (omega arith) (item (omega arith) (item (omega arith) s-none))))
     sound-t h n (R.toIndex a b) l m f w y =
         item (omega arith) (sounds-both (sound-e (h + 1) n a (search lows) (omega arith) (f .0) (search lows) (y .0)) (item (omega arith)
         (sounds-both (sound-e (h + 2) (n + exprLabels a) b (search lows) (omega arith) (f .1) (search lows) (y .1))

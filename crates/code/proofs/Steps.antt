@@ -9,7 +9,7 @@ use Rattle.machine.specs.Acts.{actOf, dyadic}
 use Rattle.machine.specs.declared.Registers.{Registers}
 use Rattle.language.specs.State.{holds, State, Result, put}
 use Rattle.code.proofs.Results.{Live}
-use Rattle.code.proofs.Machine.{Mach, Goes}
+use Rattle.code.proofs.Machine.{Mach, Leads}
 use Rattle.code.proofs.Standing.{Env, At, sumOf}
 use Rattle.code.proofs.Instructions.{withRegs, do-L, do-LI, do-S, do-SI, do-A, do-AI, do-J, do-T, do-F, do-X1, do-X2, do-X3, do-dyadic}
 use Rattle.code.proofs.Instructions.{sum-none, sum-P, sum-G}
@@ -30,7 +30,7 @@ module _ (Γ : Env) {p h a : ℕ} {s : State} {v : Mach} (r : Rel Γ p h s v) (p
 module _ (Γ : Env) (sized : Sized Γ) {A : Type 0} {Q : A → Mach → Type 0} {t p h₀ h h₃ a : ℕ} {s : State} {v : Mach} {x : Result A} (le : h₀ ≤ h)
     (r : Rel Γ p h s v) (pc : v .regs .c ≡ a) where
   -- an instruction on A, B and C alone
-  only : {g : Registers} → Goes (Γ .input) 1 v (withRegs g v) → g .p ≡ v .regs .p → g .g ≡ v .regs .g → g .taken ≡ v .regs .taken
+  only : {g : Registers} → Leads (Γ .input) 1 v (withRegs g v) → g .p ≡ v .regs .p → g .g ≡ v .regs .g → g .taken ≡ v .regs .taken
       → (Rel Γ p h s (withRegs g v) → Runs Γ Q t p h₀ h₃ s (withRegs g v) x) → Runs Γ Q (1 + t) p h₀ h₃ s v x
   only e ep eg et f = let z = quiet Γ r e refl ep eg et refl in after Γ le z (f (z .rel))
 

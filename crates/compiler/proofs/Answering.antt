@@ -26,13 +26,13 @@ use Rattle.language.proofs.Takes.{Counts}
 use Rattle.language.proofs.Tokens.{programTokens}
 use Rattle.language.proofs.ReadTokens.{program as readProgram}
 use Rattle.language.proofs.SymbolFacts.{scan-length, cost, cost-length, symbolsNow, sourceNow, counts}
-use Rattle.compiler.proofs.Vocabulary.{STRINGS, Lies}
+use Rattle.compiler.proofs.Vocabulary.{STRINGS, Holds}
 use Rattle.symbols.specs.Read.{entries, Reads}
 use Rattle.symbols.specs.declared.SymbolsRead.{SymbolsRead}
 use Rattle.tree.specs.Read.{padded, decoded}
 use Rattle.code.specs.Generate.{functionsCode, stringsCode, startsCode, itemsOf, textOf}
-use Rattle.writing.specs.Text.{Text, Puts, over, lines}
-use Rattle.writing.proofs.Laws.{over-length, lines-then, puts-none, puts-then, puts-as, upto-in}
+use Rattle.writing.specs.Text.{Text, Appends, over, lines}
+use Rattle.writing.proofs.Laws.{over-length, lines-then, appends-none, appends-then, appends-as, upto-in}
 use Rattle.compiler.specs.declared.Compiled.{Compiled}
 use Rattle.compiler.specs.declared.program.Done.{Done}
 use Rattle.compiler.specs.Groups.{FineDs, Starting, encodeFunction, functionCount, CountsFunctions}
@@ -120,9 +120,9 @@ start-told table ns k = go (hasStart ns) refl (getD table 1 0) refl
 
 -- ---- the text
 
-nothing-put : (first : ℕ) {at : ℕ} {t : List ℕ} → Puts (lines (stringsCode first [])) at at t t
+nothing-put : (first : ℕ) {at : ℕ} {t : List ℕ} → Appends (lines (stringsCode first [])) at at t t
 unfolding lines stringsCode
-nothing-put first = puts-none
+nothing-put first = appends-none
 
 text-start : (t : List ℕ) → Text t [] 0 t
 unfolding over
@@ -143,7 +143,7 @@ no-strings {source} {s} {t} {count} {names} {first} {at} z = record {
   by = λ ss e k n. none (stringsAmong source ss) (sym n ∙ z);
 }
   where
-    none : (xs : List (List ℕ)) → length xs ≡ 0 → Puts (lines (stringsCode first xs)) at at t t
+    none : (xs : List (List ℕ)) → length xs ≡ 0 → Appends (lines (stringsCode first xs)) at at t t
     none [] q = nothing-put first
     none (x ∷ xs) q = absurd (omega arith)
 
@@ -177,13 +177,13 @@ strings-gave {source} {s} {front} {t} {t′} {a} {count} {names} {first} {at} l 
 }
 
 pub behind-gave : {source s s′ table t t₁ t₂ t₃ : List ℕ} {count names functions at x y z : ℕ}
-    → AllStrings source s s′ count names (functions + 1) at x t t₁ → WritesStarts table functions x y t₁ t₂ → Puts (90 ∷ 10 ∷ []) y z t₂ t₃
+    → AllStrings source s s′ count names (functions + 1) at x t t₁ → WritesStarts table functions x y t₁ t₂ → Appends (90 ∷ 10 ∷ []) y z t₂ t₃
     → Behind source s s′ count names functions table at z t t₃
 behind-gave {source} {s} {s′} {table} {t} {t₁} {t₂} {t₃} {count} {names} {functions} {at} w v c = record {
   clean = w .clean;
   by = λ ss fs e k n long few start. let shifted = rw (add-one functions) at (w .by ss e k n) in
-      puts-as (puts-then (puts-then shifted (v .by fs long few start)) c) (rw (lines-then (stringsCode (suc functions) (stringsAmong source ss))
-      (startsCode 1 fs)));
+      appends-as (appends-then (appends-then shifted (v .by fs long few start)) c)
+      (rw (lines-then (stringsCode (suc functions) (stringsAmong source ss)) (startsCode 1 fs)));
 }
 
 -- what is accepted has no faults, and room
@@ -208,7 +208,7 @@ module _ {source s : List ℕ} {count end : ℕ} (y : ReadyTree source s count e
   size : length (entries (y .symbols)) ≡ count * 3
   size = omega (arith, entries-size (y .symbols))
 
-  pub lies : Lies s (count * 3) (encodeProgram p)
+  pub lies : Holds s (count * 3) (encodeProgram p)
   lies = record {
     at = λ i h.
         ap (λ (z : List ℕ). getD z (count * 3 + i) 0) (y .stand)
@@ -314,7 +314,7 @@ module _ {source s : List ℕ} {count end : ℕ} (y : ReadyTree source s count e
     -- ---- the answer
 
     module _ {s₁ s₂ table table′ t t₁ t₂ t₃ : List ℕ} {at last : ℕ} {d′ : Done}
-        (o : Puts (36 ∷ 10 ∷ []) 0 at t t₁) (g : GaveProgram source s s₁ table table′ (count * 3) end 520 (functions + 1) t₁ t₂
+        (o : Appends (36 ∷ 10 ∷ []) 0 at t t₁) (g : GaveProgram source s s₁ table table′ (count * 3) end 520 (functions + 1) t₁ t₂
         (record { tall = NONE; state = record { at = at; label = functions + 1 + names; worst = NONE; high = 0 } }) d′)
         (none : table ≡ replicate 400 0) (b : Behind source s₁ s₂ count names functions table′ (d′ .state .at) last t₂ t₃) where
       w : Walked source p (count * 3) (functions + 1) s s₁ table table′ t₁ t₂

@@ -9,7 +9,7 @@ use Rattle.compiler.proofs.Language.{encodeExpressions, encodeUnlabelle
 use Rattle.language.specs.Resolved as R
 use Rattle.code.specs.Generate as G
 use Rattle.compiler.proofs.Vocabulary.{Keeps, State, Here, Node, Ways, FineE, FineEs, FinePlain, raised, leavable, leavableBy, NodeAt, Did}
-use Rattle.compiler.proofs.Vocabulary.{Lies, Result, ReadyE, GaveE}
+use Rattle.compiler.proofs.Vocabulary.{Holds, Result, ReadyE, GaveE}
 use Rattle.compiler.proofs.Scoping.{keeps-all, keeps-then}
 use Rattle.compiler.specs.Commands.{cmdSays, pairsSays, GaveSide, ReadyU, GaveU}
 use Rattle.compiler.specs.Assigns.{encodeBoth, deepBoth, FineBoth, ReadyAssign, GaveAssign}
@@ -35,10 +35,10 @@ same-pairs r l L R =
 
 pub data LeftAt (s : List ℕ) (from to l : ℕ) : Expressions → Type 0 where
   noLeft : LeftAt s from to l T.noExpressions
-  aLeft : {e : Expression} {es : Expressions} (lo : ℕ) → from ≤ lo → Lies s lo (encode e) → l ≡ lo + length (encode e)
-      → Lies s l (encodeExpressions es) → l + length (encodeExpressions es) ≤ to → LeftAt s from to l (T.andExpression e es)
+  aLeft : {e : Expression} {es : Expressions} (lo : ℕ) → from ≤ lo → Holds s lo (encode e) → l ≡ lo + length (encode e)
+      → Holds s l (encodeExpressions es) → l + length (encodeExpressions es) ≤ to → LeftAt s from to l (T.andExpression e es)
 
-pub left-next : {s : List ℕ} {from to l l′ : ℕ} (es : Expressions) → from ≤ l → Lies s l (encodeExpressions es)
+pub left-next : {s : List ℕ} {from to l l′ : ℕ} (es : Expressions) → from ≤ l → Holds s l (encodeExpressions es)
     → l + length (encodeExpressions es) ≤ to → l′ ≡ l + 2 + getD s l 0 → LeftAt s from to l′ es
 unfolding encodeExpressions
 left-next T.noExpressions f h b q = noLeft
@@ -56,15 +56,15 @@ pub record IsPair (s : List ℕ) (from to l at end : ℕ) (ls rs : Expressions) 
   pub same : ls ≡ T.andExpression left lefts
   pub start : ℕ
   pub inside : from ≤ start
-  pub lies : Lies s start (encode left)
+  pub lies : Holds s start (encode left)
   pub ends : l ≡ start + length (encode left)
-  pub others : Lies s l (encodeExpressions lefts)
+  pub others : Holds s l (encodeExpressions lefts)
   pub before : l + length (encodeExpressions lefts) ≤ to
   pub right : IsArg s at end rs
   pub counts : T.count lefts ≡ T.count (right .more)
 
 pub is-pair : {s : List ℕ} {from to l at end : ℕ} (ls rs : Expressions) → LeftAt s from to l ls → T.count ls ≡ T.count rs
-    → Lies s at (encodeExpressions rs) → end ≡ at + length (encodeExpressions rs) → at < end → IsPair s from to l at end ls rs
+    → Holds s at (encodeExpressions rs) → end ≡ at + length (encodeExpressions rs) → at < end → IsPair s from to l at end ls rs
 unfolding T.count
 is-pair T.noExpressions rs w c h e k = let u = is-arg rs h e k in absurd (omega (arith, ap T.count (u .same)))
 is-pair (T.andExpression x ls) rs (aLeft lo a b d f g) c h e k = let u = is-arg rs h e k in record {
@@ -90,7 +90,7 @@ sides-long : (e : Expression) (es : Expressions) → length (encodeSides (T.andE
 unfolding encodeSides
 sides-long e es = length-append (encode e) (encodeExpressions es)
 
-left-begin : {s : List ℕ} {lo right l : ℕ} (es : Expressions) → Lies s lo (encodeSides es) → l ≡ lo + length (encodeFirst es)
+left-begin : {s : List ℕ} {lo right l : ℕ} (es : Expressions) → Holds s lo (encodeSides es) → l ≡ lo + length (encodeFirst es)
     → right ≡ lo + length (encodeSides es) → LeftAt s lo right l es
 unfolding encodeSides encodeFirst
 left-begin T.noExpressions h e f = noLeft
@@ -108,7 +108,7 @@ module _ (text t₀ : List ℕ) {s₀ : List ℕ} {left right end : ℕ} {here :
     pub lefts : Expressions
     pub rights : Expressions
     pub at-left : LeftAt s₀ (y .ready .lo) right l lefts
-    pub lies : Lies s₀ at (encodeExpressions rights)
+    pub lies : Holds s₀ at (encodeExpressions rights)
     pub ends : end ≡ at + length (encodeExpressions rights)
     pub starts : right ≤ at
     pub counts : T.count lefts ≡ T.count rights
@@ -182,7 +182,7 @@ module _ (text t₀ : List ℕ) {s₀ : List ℕ} {left right end : ℕ} {here :
             lefts = u .lefts;
             rights = v .more;
             at-left = left-next (u .lefts) (omega arith) (u .others) (u .before) (rw (el, z′));
-            lies = subst (λ (i : ℕ). Lies s₀ i (encodeExpressions (v .more))) (omega (arith, assign-size y p)) (v .lies-more);
+            lies = subst (λ (i : ℕ). Holds s₀ i (encodeExpressions (v .more))) (omega (arith, assign-size y p)) (v .lies-more);
             ends = omega (arith, assign-size y p);
             starts = omega arith;
             counts = u .counts;
@@ -249,7 +249,7 @@ pub record IsAssign (s : List ℕ) (lo end : ℕ) (u : Unlabelled) : Type 0 wher
   pub left : Expressions
   pub right : Expressions
   pub same : u ≡ T.assignment left right
-  pub lies : Lies s lo (encodeSides left ++ encodeExpressions right)
+  pub lies : Holds s lo (encodeSides left ++ encodeExpressions right)
   pub value-of : getD s (end - 3) 0 ≡ length (encodeFirst left)
   pub place-of : getD s (end - 2) 0 ≡ length (encodeSides left)
   pub size-of : getD s (end - 4) 0 ≡ length (encodeSides left ++ encodeExpressions right)

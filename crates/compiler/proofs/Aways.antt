@@ -5,7 +5,7 @@ use Rattle.language.specs.Tree as T
 use Rattle.compiler.proofs.Language.{Expression, Unlabelled, depth, unlabelledDepth, unlabelled, FineUnlabelled, inUnlabelled, ofCmd, encode}
 use Rattle.tree.specs.Encoding as O
 use Rattle.code.specs.Generate as G
-use Rattle.compiler.proofs.Vocabulary.{State, Here, Ways, Node, FineE, FinePlain, NodeAt, Emits, Faulted, LeavesTo, Lies, ReadyE, GaveE}
+use Rattle.compiler.proofs.Vocabulary.{State, Here, Ways, Node, FineE, FinePlain, NodeAt, Emits, Faulted, LeavesTo, Holds, ReadyE, GaveE}
 use Rattle.compiler.proofs.Vocabulary.{ReadyU, GaveU, GoesAway}
 use Rattle.compiler.proofs.Common.{keeps-all, emits-did, did-as, same-refl, sub, with-ways}
 use Rattle.compiler.proofs.Forms as F
@@ -85,7 +85,7 @@ away-gave text ways {s} {t} {t′} {end} {here} {st} {r} n nd a b c d e f g h i 
 pub record IsCall (s : List ℕ) (lo end : ℕ) (u : Unlabelled) : Type 0 where
   pub part : Expression
   pub same : u ≡ T.callCommand part
-  pub lies : Lies s lo (encode part)
+  pub lies : Holds s lo (encode part)
   pub ends : end ≡ lo + length (encode part)
 
 is-call : {s : List ℕ} {lo end : ℕ} {u : Unlabelled} → Form s lo end O.CALLED u → IsCall s lo end u

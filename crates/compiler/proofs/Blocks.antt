@@ -12,7 +12,7 @@ use Rattle.language.specs.Resolved as R
 use Rattle.language.specs.Heights as H
 use Rattle.code.specs.Generate as G
 use Rattle.compiler.proofs.Vocabulary.{Shows, Keeps, Pushed, State, Here, Ways, Node, FineC, FineCs, FineLs, FinePlain, marked, placed}
-use Rattle.compiler.proofs.Vocabulary.{leavable, leavableBy, NodeAt, Did, Lies, cmdSays, cmdsSays, ReadyC, GaveC, ReadyU, GaveU, ReadyList}
+use Rattle.compiler.proofs.Vocabulary.{leavable, leavableBy, NodeAt, Did, Holds, cmdSays, cmdsSays, ReadyC, GaveC, ReadyU, GaveU, ReadyList}
 use Rattle.compiler.proofs.Vocabulary.{GaveList}
 use Rattle.compiler.proofs.Common.{and, keeps-then, keeps-lower, pushed-keeps, pushed-mark, did-none, did-then, did-as, same-refl, same-eq}
 use Rattle.compiler.proofs.Common.{code-is, IsTwo, ends, moved, First, first-of, Rest, rest-all, taken-sizes, rest-next, Kind, Part, begins}
@@ -26,7 +26,7 @@ use Rattle.compiler.proofs.Forms.{Form, form-at, same-long}
 
 -- ---- a list of commands
 
-pub is-cmd : {s : List ℕ} {at end : ℕ} (cs : Commands) → Lies s at (encodeCommands cs) → end ≡ at + length (encodeCommands cs) → at < end
+pub is-cmd : {s : List ℕ} {at end : ℕ} (cs : Commands) → Holds s at (encodeCommands cs) → end ≡ at + length (encodeCommands cs) → at < end
     → First encodeCommands encodeCommand (λ c. 0) T.andCommand s at end cs
 unfolding encodeCommands
 is-cmd T.noCommands h e l = absurd (omega arith)
@@ -129,7 +129,7 @@ code-with text sc here n (someValues ns es) ls f =
 
 -- ---- one of the list
 
-pub is-local : {s : List ℕ} {at end : ℕ} (ls : T.Locals) → Lies s at (encodeLocals ls) → end ≡ at + length (encodeLocals ls) → at < end
+pub is-local : {s : List ℕ} {at end : ℕ} (ls : T.Locals) → Holds s at (encodeLocals ls) → end ≡ at + length (encodeLocals ls) → at < end
     → First encodeLocals encodeLocal (λ x. 3) withLocal s at end ls
 unfolding encodeLocals encodeLocal
 is-local T.noLocals h e l = absurd (omega arith)

@@ -11,7 +11,7 @@ use Rattle.language.specs.Heights as H
 use Rattle.code.specs.Generate as G
 use Rattle.code.specs.Generate.{exprCode, exprsCode, exprLabels, exprsLabels}
 use Rattle.compiler.proofs.Vocabulary.{Keeps, State, Here, Node, FineE, FineEs, FineSs, inside, raised, leavable, NodeAt, Did, Emits}
-use Rattle.compiler.proofs.Vocabulary.{Reached, exprSays, exprsSays, Lies, Ready, ReadyE, GaveE, ReadyArgs, GaveArgs}
+use Rattle.compiler.proofs.Vocabulary.{Reached, exprSays, exprsSays, Holds, Ready, ReadyE, GaveE, ReadyArgs, GaveArgs}
 use Rattle.compiler.proofs.Vocabulary.{Counts, encodeApplied, codeA, ReadySuffixes, GaveSuffixes, GaveIndexed, GavePassed}
 use Rattle.compiler.proofs.Scoping.{keeps-all, keeps-then}
 use Rattle.compiler.proofs.Done.{did-emit, did-put, did-after, did-none, did-then, did-as, same-refl, same-eq, same-swap, same-then, code-is}
@@ -27,7 +27,7 @@ use Rattle.compiler.proofs.Lists.{First, first-of, Kind, Part, begins, 
 abbrev pub IsArg : (s : List ℕ) (at end : ℕ) → Expressions → Type 0
 IsArg = First encodeExpressions encode (λ e. 0) T.andExpression
 
-pub is-arg : {s : List ℕ} {at end : ℕ} (es : Expressions) → Lies s at (encodeExpressions es) → end ≡ at + length (encodeExpressions es) → at < end
+pub is-arg : {s : List ℕ} {at end : ℕ} (es : Expressions) → Holds s at (encodeExpressions es) → end ≡ at + length (encodeExpressions es) → at < end
     → IsArg s at end es
 unfolding encodeExpressions
 is-arg T.noExpressions h e l = absurd (omega arith)
@@ -102,7 +102,7 @@ module _ (text t₀ : List ℕ) {s₀ : List ℕ} {from end : ℕ} {here : Here}
 pub behind-length : (tag : ℕ) (x y : List ℕ) → length (behind tag x ++ y) ≡ length x + 2 + length y
 behind-length tag x y = omega (arith, length-append (behind tag x) y, length-append x (length x ∷ tag ∷ []))
 
-pub both : {s : List ℕ} {lo m : ℕ} (x y : List ℕ) → Lies s lo x → Lies s m y → m ≡ lo + length x → Lies s lo (x ++ y)
+pub both : {s : List ℕ} {lo m : ℕ} (x y : List ℕ) → Holds s lo x → Holds s m y → m ≡ lo + length x → Holds s lo (x ++ y)
 both {s} {lo} {m} x y f g e = record {
   at = λ i l. by-cases (ltb i (length x)) (λ b. let h = ltb-true i (length x) b in f .at i h ∙ sym (List·getD-append x y 0 i h)) (λ b.
       let h = ltb-false i (length x) b in let j = i - length x in let q : i ≡ length x + j = omega arith in let p : lo + i ≡ m + j = omega arith in
@@ -120,8 +120,8 @@ pub record IsLast {A : Type 0} (enc : A → List ℕ) (cons : A → Suffixes →
   pub init : Suffixes
   pub part : A
   pub same : all ≡ snoc (cons part) init
-  pub lies : Lies s m (encodeSuffixes init)
-  pub lies-part : Lies s (m + length (encodeSuffixes init)) (enc part)
+  pub lies : Holds s m (encodeSuffixes init)
+  pub lies-part : Holds s (m + length (encodeSuffixes init)) (enc part)
   pub size-of : getD s (end - 2) 0 ≡ length (enc part)
   pub ends : end ≡ m + length (encodeSuffixes init) + length (enc part) + 2
 
@@ -138,7 +138,7 @@ no-suffix (T.index d ss) e = absurd (omega (arith, behind-length 49 (encode d) (
 
 -- one before others: it is the last where there are none
 module _ {A : Type 0} (enc : A → List ℕ) (cons : A → Suffixes → Suffixes) (tag : ℕ) {s : List ℕ} {m end : ℕ} (a : A) (ss : Suffixes)
-    (h : Lies s m (behind tag (enc a) ++ encodeSuffixes ss)) (e : end ≡ m + length (behind tag (enc a) ++ encodeSuffixes ss)) where
+    (h : Holds s m (behind tag (enc a) ++ encodeSuffixes ss)) (e : end ≡ m + length (behind tag (enc a) ++ encodeSuffixes ss)) where
   alone : length (encodeSuffixes ss) ≡ 0 → (IsLast enc cons s m end (cons a ss) → Last s m end (cons a ss) tag)
       → Last s m end (cons a ss) (getD s (end - 1) 0)
   unfolding encodeSuffixes snoc
@@ -178,14 +178,14 @@ module _ {A : Type 0} (enc : A → List ℕ) (cons : A → Suffixes → Suffixes
     before-last (anIndex u) = anIndex (before u)
 
     step : (IsLast enc cons s m end (cons a ss) → Last s m end (cons a ss) tag)
-        → ((k : ℕ) → Lies s k (encodeSuffixes ss) → end ≡ k + length (encodeSuffixes ss) → k < end → Last s k end ss (getD s (end - 1) 0))
+        → ((k : ℕ) → Holds s k (encodeSuffixes ss) → end ≡ k + length (encodeSuffixes ss) → k < end → Last s k end ss (getD s (end - 1) 0))
         → Last s m end (cons a ss) (getD s (end - 1) 0)
     step is rest =
         let w = behind tag (enc a) in let k = length-append w (encodeSuffixes ss) in let n = m + length w in
         by-cases (ltb n end) (λ b. before-last (rest n (second w (encodeSuffixes ss) n h refl) (omega arith) (ltb-true n end b)))
         (λ b. alone (omega (arith, ltb-false n end b)) is)
 
-pub last : {s : List ℕ} {m end : ℕ} (ss : Suffixes) → Lies s m (encodeSuffixes ss) → end ≡ m + length (encodeSuffixes ss) → m < end
+pub last : {s : List ℕ} {m end : ℕ} (ss : Suffixes) → Holds s m (encodeSuffixes ss) → end ≡ m + length (encodeSuffixes ss) → m < end
     → Last s m end ss (getD s (end - 1) 0)
 unfolding encodeSuffixes snoc
 last T.noSuffixes h e l = absurd (omega arith)
@@ -278,7 +278,7 @@ module _ {s : List ℕ} {middle end : ℕ} {here : Here} {st : State} where
       let a = y .ready .tree in
       omega (arith, length-append (encode (a .primary)) (encodeSuffixes (a .suffixes)))
 
-  pub applied-lies : (y : ReadySuffixes s middle end here st) → Lies s middle (encodeSuffixes (y .ready .tree .suffixes))
+  pub applied-lies : (y : ReadySuffixes s middle end here st) → Holds s middle (encodeSuffixes (y .ready .tree .suffixes))
   applied-lies y = let a = y .ready .tree in second (encode (a .primary)) (encodeSuffixes (a .suffixes)) middle (y .ready .lies) (y .parts)
 
   abbrev pub primary-part : end ≤ middle → ReadySuffixes s middle end here st → ReadyE s middle here st

@@ -9,7 +9,7 @@ use Rattle.language.specs.Names as N
 use Rattle.code.specs.Generate as G
 use Rattle.language.specs.Faults as Y
 use Rattle.compiler.proofs.Vocabulary.{Keeps, Shows, Pushed, PushedName, code, nameAt, State, Here, Ways, Node, FineE, FineC, FinePlain}
-use Rattle.compiler.proofs.Vocabulary.{inside, inValof, leavable, leavableBy, NodeAt, Emits, Fresh, LeavesTo, Lies, ReadyE, GaveE, ReadyC}
+use Rattle.compiler.proofs.Vocabulary.{inside, inValof, leavable, leavableBy, NodeAt, Emits, Fresh, LeavesTo, Holds, ReadyE, GaveE, ReadyC}
 use Rattle.compiler.proofs.Vocabulary.{GaveC, ReadyU, GaveU}
 use Rattle.compiler.proofs.Common.{keeps-all, keeps-then, keeps-lower, keeps-name, pushed-keeps, pushed-mark, pushed-name, did-put, did-then}
 use Rattle.compiler.proofs.Common.{did-as, did-at, did-fresh, same-eq, same-swap, same-then, code-is, find, is-valof, ends, sub, with-ways}
@@ -53,7 +53,7 @@ pub record IsResult (s : List ℕ) (lo end : ℕ) (u : Unlabelled) : Type 0 wher
   pub part : Expression
   pub same : u ≡ T.resultis place part
   pub place-of : getD s (end - 2) 0 ≡ place
-  pub lies : Lies s lo (encode part)
+  pub lies : Holds s lo (encode part)
   pub ends : end ≡ lo + length (encode part) + 4
 
 is-resultis : {s : List ℕ} {lo end : ℕ} {u : Unlabelled} → Form s lo end 8 u → IsResult s lo end u

@@ -12,7 +12,7 @@ use Rattle.code.specs.Generate as G
 use Rattle.language.specs.Faults as Y
 use Rattle.compiler.proofs.Scoping.{keeps-all, keeps-then}
 use Rattle.compiler.proofs.Vocabulary.{State, Here, Ways, Node, FineE, FineC, FinePlain, inLoop, leavableBy, NodeAt, Emits, Fresh}
-use Rattle.compiler.proofs.Vocabulary.{Lies, Result, ReadyE, GaveE}
+use Rattle.compiler.proofs.Vocabulary.{Holds, Result, ReadyE, GaveE}
 use Rattle.compiler.specs.Commands.{cmdSays, ReadyC, GaveC, ReadyU, GaveU, WhileWord, aWhile, anUntil, WhileKind}
 use Rattle.compiler.proofs.Done.{emits-then, did-put, did-after, did-then, did-at, did-fresh, same-refl, same-eq, code-is}
 use Rattle.compiler.proofs.Trees.{first, second}
@@ -29,9 +29,9 @@ pub record IsTest (s : List ℕ) (lo end : ℕ) (u : Unlabelled) : Type 0 where
   pub body : Command
   pub other : Command
   pub same : u ≡ T.test test body other
-  pub lies : Lies s lo (encode test)
-  pub lies-body : Lies s (lo + length (encode test)) (encodeCommand body)
-  pub lies-other : Lies s (lo + length (encode test) + length (encodeCommand body)) (encodeCommand other)
+  pub lies : Holds s lo (encode test)
+  pub lies-body : Holds s (lo + length (encode test)) (encodeCommand body)
+  pub lies-other : Holds s (lo + length (encode test) + length (encodeCommand body)) (encodeCommand other)
   pub ends : end ≡ lo + length (encode test) + length (encodeCommand body) + length (encodeCommand other) + 4
 
 is-test : {s : List ℕ} {lo end : ℕ} {u : Unlabelled} → Form s lo end K.TEST u → IsTest s lo end u

@@ -2,7 +2,7 @@
 use Rattle.laws.proofs.Basics.{ℕ, _+_, _*_, _^_, _<_, _≤_, _≡_, refl, sym, ap, subst, _∙_, List, [], _∷_, length, getD, arith}
 use Rattle.compiler.proofs.Language.{Name, Scope, declared, inBlock, declareAll, twice, encodeName, encodeNames, FineName, FineNames}
 use Rattle.language.specs.Names as N
-use Rattle.compiler.proofs.Vocabulary.{Shows, Keeps, PushedName, Told, code, found, nameAt, State, Did, Faulted, Lies, ReadyNames, Declares}
+use Rattle.compiler.proofs.Vocabulary.{Shows, Keeps, PushedName, Told, code, found, nameAt, State, Did, Faulted, Holds, ReadyNames, Declares}
 use Rattle.compiler.proofs.Vocabulary.{Again}
 use Rattle.compiler.proofs.Common.{keeps-then, keeps-lower, keeps-name, name-there, means-unknown, pushed-keeps, pushed-name, did-none}
 use Rattle.compiler.proofs.Common.{did-then, did-as, same-refl, second, Rest, rest-all}
@@ -45,10 +45,10 @@ pub record IsNames (s : List ℕ) (at end : ℕ) (ns : List Name) : Type 0 where
   pub more : List Name
   pub same : ns ≡ name ∷ more
   pub is : nameAt s at ≡ name
-  pub lies-more : Lies s (at + 4) (encodeNames more)
+  pub lies-more : Holds s (at + 4) (encodeNames more)
   pub ends : end ≡ at + 4 + length (encodeNames more)
 
-pub is-names : {s : List ℕ} {at end : ℕ} (ns : List Name) → Lies s at (encodeNames ns) → end ≡ at + length (encodeNames ns) → at < end
+pub is-names : {s : List ℕ} {at end : ℕ} (ns : List Name) → Holds s at (encodeNames ns) → end ≡ at + length (encodeNames ns) → at < end
     → IsNames s at end ns
 unfolding encodeNames encodeName
 is-names [] h e l = absurd (omega arith)

@@ -6,8 +6,8 @@ use Rattle.items.specs.Item as I
 use Rattle.compiler.proofs.Language.{Fault, fault, ofExpr, greatest}
 use Rattle.code.specs.Generate as G
 use Rattle.code.specs.Generate.{exprCode, exprLabels}
-use Rattle.writing.specs.Text.{Puts, line, lines}
-use Rattle.writing.proofs.Laws.{puts-none, puts-then, puts-as, lines-then}
+use Rattle.writing.specs.Text.{Appends, line, lines}
+use Rattle.writing.proofs.Laws.{appends-none, appends-then, appends-as, lines-then}
 use Rattle.compiler.proofs.Scoping.{means-unknown, means-local, means-global, means-manifest, means-function}
 use Rattle.compiler.proofs.Vocabulary.{State, Here, Node, inside, NodeAt, key, least, AllFit, noFit, andFit, Code, Did, Emits, Reached}
 use Rattle.compiler.proofs.Vocabulary.{Faulted, Means, Fresh, LeavesTo}
@@ -52,12 +52,12 @@ fit-right (f ∷ a) b (andFit p n r) = fit-right a b r
 -- ---- one item; a height; a fault
 
 module _ {st r : State} (high : r .high ≡ st .high) (worst : r .worst ≡ st .worst) (label : r .label ≡ st .label) where
-  pub emits-one : {i : I.Item} {t t′ : List ℕ} → Puts (line i) (st .at) (r .at) t t′ → Emits (i ∷ []) [] t t′ st r
+  pub emits-one : {i : I.Item} {t t′ : List ℕ} → Appends (line i) (st .at) (r .at) t t′ → Emits (i ∷ []) [] t t′ st r
   unfolding lines greatest
-  emits-one {i} p = record { text = puts-as p (append-nil (line i)); high = high; worst = worst; label = label }
+  emits-one {i} p = record { text = appends-as p (append-nil (line i)); high = high; worst = worst; label = label }
 
-still : {m n : ℕ} → n ≡ m → (t : List ℕ) → Puts [] m n t t
-still e t = rw e puts-none
+still : {m n : ℕ} → n ≡ m → (t : List ℕ) → Appends [] m n t t
+still e t = rw e appends-none
 
 module _ {h : ℕ} {st r : State} (at : r .at ≡ st .at) (worst : r .worst ≡ st .worst) (label : r .label ≡ st .label) where
   pub reached-up : st .high < h → r .high ≡ h → Reached h st r
@@ -91,7 +91,7 @@ module _ {place number : ℕ} {st r : State} (fits : (place < 2 ^ 32) × (number
 pub emits-then : {xs ys : List I.Item} {hs ks : List ℕ} {t t₁ t₂ : List ℕ} {st a b : State} → Emits xs hs t t₁ st a → Emits ys ks t₁ t₂ a b
     → Emits (xs ++ ys) (hs ++ ks) t t₂ st b
 emits-then {xs} {ys} {hs} {ks} {st = st} f g = record {
-  text = puts-as (puts-then (f .text) (g .text)) (lines-then xs ys);
+  text = appends-as (appends-then (f .text) (g .text)) (lines-then xs ys);
   high = rw (g .high, f .high, greatest-then (st .high) hs ks);
   worst = g .worst ∙ f .worst;
   label = g .label ∙ f .label;
@@ -99,7 +99,7 @@ emits-then {xs} {ys} {hs} {ks} {st = st} f g = record {
 
 pub emits-none : {t : List ℕ} {st : State} → Emits [] [] t t st st
 unfolding lines greatest
-emits-none = record { text = puts-none; high = refl; worst = refl; label = refl }
+emits-none = record { text = appends-none; high = refl; worst = refl; label = refl }
 
 -- no faults
 pub emits-did : {xs : List I.Item} {hs : List ℕ} {t t′ : List ℕ} {st r : State} (code : ℕ → Code) → Emits xs hs t t′ st r
@@ -130,7 +130,7 @@ did-then {fs} {gs} {f} {g} {st = st} x y = record {
   grows = omega arith;
   clean = λ n. let w = x .clean (nil-left fs gs n) in let v = rw (w .label) at (y .clean (nil-right fs gs n)) in let l = f (st .label) .labels in
       record {
-        text = puts-as (puts-then (w .text) (v .text)) (lines-then (f (st .label) .items) (g (st .label + l) .items));
+        text = appends-as (appends-then (w .text) (v .text)) (lines-then (f (st .label) .items) (g (st .label + l) .items));
         high = rw (v .high, w .high, greatest-then (st .high) (f (st .label) .heights) (g (st .label + l) .heights));
         label = omega arith;
       };

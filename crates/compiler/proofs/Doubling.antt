@@ -9,7 +9,7 @@ use Rattle.language.specs.Resolved as R
 use Rattle.compiler.proofs.Vocabulary.{State, Node, NodeAt, Did, Faulted, Verdict, labelFaults, ReadyLabels, JudgesLabels}
 use Rattle.compiler.specs.declared.labels.Span.{Span}
 use Rattle.compiler.specs.Commands.{nothing}
-use Rattle.compiler.specs.Locals.{Says, fit, unfit, Judges, Blames}
+use Rattle.compiler.specs.Locals.{Says, says-good, says-refused, Judges, Blames}
 use Rattle.compiler.specs.Labels.{aCase, aDefault, NextItem, LabelAt, CommandAt, Spans, Listed, marks, flag, Marks, Notes, Marked, JudgesLabel}
 use Rattle.compiler.specs.Labels.{JudgesCommand, faultsAmong}
 use Rattle.compiler.proofs.Common.{did-none, did-then, did-as, same-refl}
@@ -144,14 +144,14 @@ module _ (text : List ℕ) {s : List ℕ} {end : ℕ} (top : ℕ) (st r : State)
 
     pub label-refused : {seen : List ℕ} → (j .number ≡ 0 → ⊥) → Blames j st r → JudgesLabel text s end top seen seen st r
     label-refused z b = case-by (λ p ls x. elim [
-      | fit w ↦ λ e low m. absurd (z w)
-      | unfit a k w ↦ λ e low m. (rw (append-nil ls) m, b .by (refused _) (unfit a k w))
+      | says-good w ↦ λ e low m. absurd (z w)
+      | says-refused a k w ↦ λ e low m. (rw (append-nil ls) m, b .by (refused _) (says-refused a k w))
     ])
 
     pub label-case : {seen seen′ : List ℕ} → j .number ≡ 0 → Notes (j .word) (n .place) seen seen′ st r → JudgesLabel text s end top seen seen′ st r
     label-case z w = case-by (λ p ls x. elim [
-      | fit k ↦ λ e low m. (case-marks w low m, λ t. rw (nd .place ∙ e) at (case-did w low m t))
-      | unfit a k u ↦ λ e low m. absurd (k (sym a ∙ z))
+      | says-good k ↦ λ e low m. (case-marks w low m, λ t. rw (nd .place ∙ e) at (case-did w low m t))
+      | says-refused a k u ↦ λ e low m. absurd (k (sym a ∙ z))
     ])
 
 -- ---- all labels of a command, and of all commands

@@ -9,7 +9,7 @@ use Rattle.language.specs.Resolved as R
 use Rattle.code.specs.Generate as G
 use Rattle.code.specs.Generate.{exprCode, exprLabels}
 use Rattle.compiler.proofs.Vocabulary.{nameAt, found, Looked, State, Here, Node, inside, raised, leavable, NodeAt, Code, Did, Emits, Means}
-use Rattle.compiler.proofs.Vocabulary.{exprSays, FineE, FineOs, Lies, Ready, Result, ReadyE, GaveE, faultsE, codeE, chainCode, chainHeights}
+use Rattle.compiler.proofs.Vocabulary.{exprSays, FineE, FineOs, Holds, Ready, Result, ReadyE, GaveE, faultsE, codeE, chainCode, chainHeights}
 use Rattle.compiler.proofs.Vocabulary.{chainLabels, chainSays, ReadyChain, GaveChain}
 use Rattle.compiler.proofs.Scoping.{keeps-all, keeps-then}
 use Rattle.compiler.proofs.Done.{emits-did, did-put, did-after, did-none, did-then, did-as, same-refl, code-is}
@@ -147,7 +147,7 @@ pub record Operation : Type 0 where
 abbrev pub withOperation : Operation → Operations → Operations
 withOperation x os = T.operation (x .operator) (x .operand) os
 
-pub is-operation : {s : List ℕ} {at end : ℕ} (os : Operations) → Lies s at (encodeOperations os) → end ≡ at + length (encodeOperations os) → at < end
+pub is-operation : {s : List ℕ} {at end : ℕ} (os : Operations) → Holds s at (encodeOperations os) → end ≡ at + length (encodeOperations os) → at < end
     → First encodeOperations (λ x. encode (x .operand)) (λ x. x .operator) withOperation s at end os
 unfolding encodeOperations
 is-operation T.noOperations h e l = absurd (omega arith)

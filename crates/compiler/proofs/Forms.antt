@@ -9,7 +9,7 @@ use Rattle.compiler.proofs.Language.{encode, encodeName, encodeBy, enco
 use Rattle.compiler.proofs.Language.{encodeLocals, encodeUnlabelled, suffixedKind}
 use Rattle.language.specs.Binding.{isGuard, isLeave}
 use Rattle.tree.specs.Encoding as O
-use Rattle.compiler.proofs.Vocabulary.{State, Here, Node, FinePlain, NodeAt, Lies, ReadyU}
+use Rattle.compiler.proofs.Vocabulary.{State, Here, Node, FinePlain, NodeAt, Holds, ReadyU}
 use Rattle.compiler.proofs.Common.{kid, ends, value-is, place-is, size-is, kind-is, IsTwo, two-closed}
 
 -- one of a list, where each has what is wanted
@@ -25,25 +25,25 @@ none-of k m = contradiction cc
 
 module _ (s : List ℕ) (lo end : ℕ) where
   pub data Form : ℕ → Unlabelled → Type 0 where
-    anAssignment : {ls rs : Expressions} → Lies s lo (encodeSides ls ++ encodeExpressions rs) → getD s (end - 3) 0 ≡ length (encodeFirst ls)
+    anAssignment : {ls rs : Expressions} → Holds s lo (encodeSides ls ++ encodeExpressions rs) → getD s (end - 3) 0 ≡ length (encodeFirst ls)
         → getD s (end - 2) 0 ≡ length (encodeSides ls) → getD s (end - 4) 0 ≡ length (encodeSides ls ++ encodeExpressions rs) → end ≡ lo + length
         (encodeSides ls ++ encodeExpressions rs) + 4 → Form K.ASSIGN (T.assignment ls rs)
-    aCall : {e : Expression} → Lies s lo (encode e) → end ≡ lo + length (encode e) → isCall e ≡ true → Form O.CALLED (T.callCommand e)
-    aTest : {e : Expression} {c d : Command} → Lies s lo (encode e ++ (encodeCommand c ++ encodeCommand d))
+    aCall : {e : Expression} → Holds s lo (encode e) → end ≡ lo + length (encode e) → isCall e ≡ true → Form O.CALLED (T.callCommand e)
+    aTest : {e : Expression} {c d : Command} → Holds s lo (encode e ++ (encodeCommand c ++ encodeCommand d))
         → end ≡ lo + length (encode e ++ (encodeCommand c ++ encodeCommand d)) + 4 → Form K.TEST (T.test e c d)
-    anIf : {e : Expression} {c : Command} → Lies s lo (encode e ++ encodeCommand c) → end ≡ lo + length (encode e ++ encodeCommand c) + 4
+    anIf : {e : Expression} {c : Command} → Holds s lo (encode e ++ encodeCommand c) → end ≡ lo + length (encode e ++ encodeCommand c) + 4
         → Form K.IF (T.guarded K.IF e c)
-    anUnless : {e : Expression} {c : Command} → Lies s lo (encode e ++ encodeCommand c) → end ≡ lo + length (encode e ++ encodeCommand c) + 4
+    anUnless : {e : Expression} {c : Command} → Holds s lo (encode e ++ encodeCommand c) → end ≡ lo + length (encode e ++ encodeCommand c) + 4
         → Form K.UNLESS (T.guarded K.UNLESS e c)
-    aWhile : {e : Expression} {c : Command} → Lies s lo (encode e ++ encodeCommand c) → end ≡ lo + length (encode e ++ encodeCommand c) + 4
+    aWhile : {e : Expression} {c : Command} → Holds s lo (encode e ++ encodeCommand c) → end ≡ lo + length (encode e ++ encodeCommand c) + 4
         → Form K.WHILE (T.guarded K.WHILE e c)
-    anUntil : {e : Expression} {c : Command} → Lies s lo (encode e ++ encodeCommand c) → end ≡ lo + length (encode e ++ encodeCommand c) + 4
+    anUntil : {e : Expression} {c : Command} → Holds s lo (encode e ++ encodeCommand c) → end ≡ lo + length (encode e ++ encodeCommand c) + 4
         → Form K.UNTIL (T.guarded K.UNTIL e c)
     aFor : {n : Name} {e d : Expression} {k : Option Constant} {c : Command}
-        → Lies s lo (encodeName n ++ (encode e ++ (encode d ++ (encodeBy k ++ encodeCommand c)))) → getD s (end - 3) 0 ≡ length (encodeBy k) → end
+        → Holds s lo (encodeName n ++ (encode e ++ (encode d ++ (encodeBy k ++ encodeCommand c)))) → getD s (end - 3) 0 ≡ length (encodeBy k) → end
         ≡ lo + length (encodeName n ++ (encode e ++ (encode d ++ (encodeBy k ++ encodeCommand c)))) + 4 → Form K.FOR (T.for n e d k c)
     aSwitch : {u : Unlabelled} → IsTwo encode encodeCommands T.switchon s lo end u → Form K.SWITCHON u
-    aResult : {p : ℕ} {e : Expression} → getD s (end - 2) 0 ≡ p → Lies s lo (encode e) → end ≡ lo + length (encode e) + 4
+    aResult : {p : ℕ} {e : Expression} → getD s (end - 2) 0 ≡ p → Holds s lo (encode e) → end ≡ lo + length (encode e) + 4
         → Form K.RESULTIS (T.resultis p e)
     aBlock : {u : Unlabelled} → IsTwo encodeLocals encodeCommands T.block s lo end u → Form K.BEGIN u
     anEndcase : {p : ℕ} → getD s (end - 2) 0 ≡ p → Form K.ENDCASE (T.leave K.ENDCASE p)
@@ -55,7 +55,7 @@ module _ (s : List ℕ) (lo end : ℕ) where
   so : {k : ℕ} {u : Unlabelled} → getD s (end - 1) 0 ≡ k → Form k u → Form (getD s (end - 1) 0) u
   so q c = rw q c
 
-  guard-form : {w : ℕ} {e : Expression} {c : Command} → isGuard w ≡ true → Lies s lo (encode e ++ encodeCommand c)
+  guard-form : {w : ℕ} {e : Expression} {c : Command} → isGuard w ≡ true → Holds s lo (encode e ++ encodeCommand c)
       → end ≡ lo + length (encode e ++ encodeCommand c) + 4 → Form w (T.guarded w e c)
   unfolding isGuard
   guard-form {w} {e} {c} m h q = let P : ℕ → Type 0 = λ w. Form w (T.guarded w e c) in
@@ -69,7 +69,7 @@ module _ (s : List ℕ) (lo end : ℕ) where
       (λ m. one-of P w K.RETURN _ m (aReturn h) (λ m. one-of P w K.FINISH _ m (aFinish h) (none-of w)))))
 
   -- a call's record has its own kind
-  called-kind : (e : Expression) → isCall e ≡ true → Lies s lo (encode e) → end ≡ lo + length (encode e) → getD s (end - 1) 0 ≡ O.CALLED
+  called-kind : (e : Expression) → isCall e ≡ true → Holds s lo (encode e) → end ≡ lo + length (encode e) → getD s (end - 1) 0 ≡ O.CALLED
   unfolding isCall encode suffixedKind
   called-kind (T.number p v) f h q = contradiction cc
   called-kind (T.string p v) f h q = contradiction cc
@@ -81,7 +81,8 @@ module _ (s : List ℕ) (lo end : ℕ) where
   called-kind (T.suffixed d ss) f h q =
       rw (kind-is (encode d ++ O.encodeSuffixes ss) (length (encode d)) (placeOf d) (suffixedKind (endsInCall false ss)) h q, f)
 
-  pub form-of : (u : Unlabelled) → FinePlain u → Lies s lo (encodeUnlabelled u) → end ≡ lo + length (encodeUnlabelled u) → Form (getD s (end - 1) 0) u
+  pub form-of : (u : Unlabelled) → FinePlain u → Holds s lo (encodeUnlabelled u) → end ≡ lo + length (encodeUnlabelled u)
+      → Form (getD s (end - 1) 0) u
   unfolding FineUnlabelled encodeUnlabelled
   form-of T.empty f h q = absurd (f .1 refl)
   form-of (T.assignment ls rs) f h q =

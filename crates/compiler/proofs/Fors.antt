@@ -11,7 +11,7 @@ use Rattle.language.specs.Names as N
 use Rattle.language.specs.Resolved as R
 use Rattle.code.specs.Generate as G
 use Rattle.compiler.proofs.Vocabulary.{Shows, Keeps, Pushed, PushedName, nameAt, State, Here, Ways, Node, FineE, FineC, FinePlain, raised}
-use Rattle.compiler.proofs.Vocabulary.{placed, inLoop, leavableBy, NodeAt, Code, Did, Emits, Fresh, Lies, ReadyE, GaveE, Verdict, cmdSays}
+use Rattle.compiler.proofs.Vocabulary.{placed, inLoop, leavableBy, NodeAt, Code, Did, Emits, Fresh, Holds, ReadyE, GaveE, Verdict, cmdSays}
 use Rattle.compiler.proofs.Vocabulary.{ReadyC, GaveC, ReadyU, GaveU, byJudged, JudgesBy}
 use Rattle.compiler.proofs.Common.{keeps-lower, keeps-all, keeps-then, keeps-shows, keeps-name, name-there, pushed-keeps, did-emit, did-put}
 use Rattle.compiler.proofs.Common.{did-then, did-as, did-at, did-fresh, same-refl, same-eq, code-is, first, second, keeps-lies, sub, moved}
@@ -38,10 +38,10 @@ pub record IsFor (s : List ℕ) (lo end : ℕ) (u : Unlabelled) : Type 0 where
   pub body : Command
   pub same : u ≡ T.for name start limit by body
   pub name-is : nameAt s lo ≡ name
-  pub lies-start : Lies s (lo + 4) (encode start)
-  pub lies-limit : Lies s (lo + 4 + length (encode start)) (encode limit)
-  pub lies-by : Lies s (lo + 4 + length (encode start) + length (encode limit)) (encodeBy by)
-  pub lies-body : Lies s (lo + 4 + length (encode start) + length (encode limit) + length (encodeBy by)) (encodeCommand body)
+  pub lies-start : Holds s (lo + 4) (encode start)
+  pub lies-limit : Holds s (lo + 4 + length (encode start)) (encode limit)
+  pub lies-by : Holds s (lo + 4 + length (encode start) + length (encode limit)) (encodeBy by)
+  pub lies-body : Holds s (lo + 4 + length (encode start) + length (encode limit) + length (encodeBy by)) (encodeCommand body)
   pub value-of : getD s (end - 3) 0 ≡ length (encodeBy by)
   pub ends : end ≡ lo + 4 + length (encode start) + length (encode limit) + length (encodeBy by) + length (encodeCommand body) + 4
 

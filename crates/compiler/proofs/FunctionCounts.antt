@@ -3,7 +3,7 @@ use Rattle.laws.proofs.Basics.{ℕ, _+_, _<_, _≤_, _≡_, refl, ap, subst, _�
 use Rattle.language.specs.Kinds as K
 use Rattle.language.specs.Tree as T
 use Rattle.compiler.proofs.Language.{Declaration, Program, encodeProgram}
-use Rattle.compiler.specs.Walks.{Lies}
+use Rattle.compiler.specs.Walks.{Holds}
 use Rattle.compiler.proofs.Vocabulary.{functionCount, CountsFunctions, CountsGroup, encodeDeclared, declaredWord}
 use Rattle.compiler.proofs.Common.{First, first-of, Rest, rest-all, rest-next, keeps-all}
 
@@ -17,11 +17,11 @@ abbrev pub IsDeclaration : (s : List ℕ) (at end : ℕ) → Program → Type 0
 IsDeclaration = First encodeProgram encodeDeclared declaredWord (λ d p. d ∷ p)
 
 pub is-declaration : {s : List ℕ} {at end : ℕ} (p : Program)
-    → Lies s at (encodeProgram p) → end ≡ at + length (encodeProgram p) → at < end → IsDeclaration s at end p
+    → Holds s at (encodeProgram p) → end ≡ at + length (encodeProgram p) → at < end → IsDeclaration s at end p
 unfolding encodeProgram
 is-declaration [] h e l = absurd (omega arith)
 is-declaration {s} {at} (d ∷ p) h e l =
-    first-of encodeProgram encodeDeclared declaredWord (λ d p. d ∷ p) d p (subst (Lies s at) (program-step d p) h) (rw (e, program-step d p))
+    first-of encodeProgram encodeDeclared declaredWord (λ d p. d ∷ p) d p (subst (Holds s at) (program-step d p) h) (rw (e, program-step d p))
 
 pub no-declaration : {at end : ℕ} (p : Program) → end ≡ at + length (encodeProgram p) → end ≤ at → p ≡ []
 no-declaration [] e l = refl
@@ -47,7 +47,7 @@ pub record Part (s : List ℕ) (at end n : ℕ) (p : Program) : Type 0 where
   pub sum : n + functionCount (left .rest) ≡ functionCount p
 
 abbrev pub Counted : (s : List ℕ) (from end at n : ℕ) → Type 0
-Counted s from end at n = (p : Program) → Lies s from (encodeProgram p) → end ≡ from + length (encodeProgram p) → Part s at end n p
+Counted s from end at n = (p : Program) → Holds s from (encodeProgram p) → end ≡ from + length (encodeProgram p) → Part s at end n p
 
 pub counted-begin : {s : List ℕ} {from end : ℕ} → Counted s from end from 0
 counted-begin p h e = record { left = rest-all p h e (omega arith); sum = omega arith }
@@ -56,7 +56,7 @@ module _ {s : List ℕ} {from end at n size word : ℕ} (l : at < end) (es : siz
     (q : Counted s from end at n) where
   -- one more, with so many functions of its own
   onwards : (m : ℕ)
-      → ((d : Declaration) → word ≡ declaredWord d → Lies s (at + 2) (encodeDeclared d) → size ≡ length (encodeDeclared d) → m ≡ ownCount d)
+      → ((d : Declaration) → word ≡ declaredWord d → Holds s (at + 2) (encodeDeclared d) → size ≡ length (encodeDeclared d) → m ≡ ownCount d)
       → Counted s from end (at + 2 + size) (n + m)
   onwards m own p h e = let c = q p h e in let u = is-declaration (c .left .rest) (c .left .lies) (c .left .ends) l in
       record {

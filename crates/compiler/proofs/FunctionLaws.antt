@@ -6,7 +6,7 @@ use Rattle.language.specs.Kinds as K
 use Rattle.compiler.proofs.Language.{Function, opened, declareAll, heightsOf, encodeName, encodeNames, encodeBody, bodyWord}
 use Rattle.language.specs.Program.{inside, bodyOf, functionFaults, resolved}
 use Rattle.code.specs.Generate as G
-use Rattle.compiler.proofs.Vocabulary.{Keeps, Pushed, State, Here, Node, NodeAt, Emits, Reached, Lies, ReadyNames, Declares, encodeFunction}
+use Rattle.compiler.proofs.Vocabulary.{Keeps, Pushed, State, Here, Node, NodeAt, Emits, Reached, Holds, ReadyNames, Declares, encodeFunction}
 use Rattle.compiler.proofs.Vocabulary.{ReadyBody, GaveBody, functionSays, ReadyF, GaveF}
 use Rattle.compiler.proofs.Common.{ready-names, keeps-then, keeps-lower, pushed-keeps, pushed-mark, did-then, did-put, did-after, did-as}
 use Rattle.compiler.proofs.Common.{same-refl, code-is, first, second, keeps-lies, ends, kid, size-is, value-is, kind-is, moved}
@@ -15,14 +15,14 @@ use Rattle.compiler.proofs.Judging.{names-long}
 -- ---- where its parts stand
 
 pub record Parted (s : List ℕ) (lo end : ℕ) (f : Function) : Type 0 where
-  pub lies-names : Lies s (lo + 4) (encodeNames (f .parameters))
-  pub lies-body : Lies s (lo + 4 + length (encodeNames (f .parameters))) (encodeBody (f .body))
+  pub lies-names : Holds s (lo + 4) (encodeNames (f .parameters))
+  pub lies-body : Holds s (lo + 4 + length (encodeNames (f .parameters))) (encodeBody (f .body))
   pub size-of : getD s (end - 4) 0 ≡ 4 + length (encodeNames (f .parameters)) + length (encodeBody (f .body))
   pub value-of : getD s (end - 3) 0 ≡ length (encodeNames (f .parameters))
   pub kind-of : getD s (end - 1) 0 ≡ bodyWord (f .body)
   pub ends : end ≡ lo + 8 + length (encodeNames (f .parameters)) + length (encodeBody (f .body))
 
-pub parted : {s : List ℕ} {lo end : ℕ} (f : Function) → Lies s lo (encodeFunction f) → end ≡ lo + length (encodeFunction f) → Parted s lo end f
+pub parted : {s : List ℕ} {lo end : ℕ} (f : Function) → Holds s lo (encodeFunction f) → end ≡ lo + length (encodeFunction f) → Parted s lo end f
 unfolding encodeName
 parted {s} {lo} f h e = let name : List ℕ = encodeName (f .name) in let names = encodeNames (f .parameters) in let body = encodeBody (f .body) in
     let w = name ++ (names ++ body) in let v = length names in let k = bodyWord (f .body) in let inner = kid w v 0 k h e in let rest = second name

@@ -8,7 +8,7 @@ use Rattle.compiler.proofs.Language.{functionsDepth, encodeName, encode
 use Rattle.language.specs.Program.{Named, startOf, withFunction, resolved, functionFaults, groupFaults, groupOf, heightFaults}
 use Rattle.language.specs.Whole.{funs}
 use Rattle.code.specs.Generate as G
-use Rattle.compiler.proofs.Vocabulary.{Did, Code, least, AllFit, noFit, Lies, State, Here, encodeFunction, functionDepth, FineF, FineFs}
+use Rattle.compiler.proofs.Vocabulary.{Did, Code, least, AllFit, noFit, Holds, State, Here, encodeFunction, functionDepth, FineF, FineFs}
 use Rattle.compiler.proofs.Vocabulary.{functionSays, functionsSays, innerLabels, ReadyF, GaveF, ReadyFs, GaveFs, Yields}
 use Rattle.compiler.specs.declared.program.Done.{Done}
 use Rattle.compiler.proofs.Common.{and, keeps-shows, least-then, fit-then, fault-fits, nil-left, nil-right, did-none, did-then, did-as}
@@ -135,7 +135,7 @@ functions-long [] = omega arith
 functions-long (f ∷ fs) = omega (arith, functions-long fs, functions-step f fs)
 
 -- its name stands first
-function-place : {s : List ℕ} {lo : ℕ} (f : Function) → Lies s lo (encodeFunction f) → getD s (lo + 2) 0 ≡ f .name .place
+function-place : {s : List ℕ} {lo : ℕ} (f : Function) → Holds s lo (encodeFunction f) → getD s (lo + 2) 0 ≡ f .name .place
 unfolding encodeName
 function-place f h = h .at 2 (omega arith)
 

@@ -5,7 +5,7 @@ use Rattle.laws.proofs.Cases.{by-cases, contradiction}
 use Rattle.compiler.proofs.Language.{Function, nowhere, encodeFunctions}
 use Rattle.language.specs.Names as N
 use Rattle.language.specs.Program.{among, startOf, nameFault}
-use Rattle.compiler.proofs.Vocabulary.{PushedName, code, found, State, Did, Faulted, Lies, Taken, NameFaults, Enters, encodeFunction}
+use Rattle.compiler.proofs.Vocabulary.{PushedName, code, found, State, Did, Faulted, Holds, Taken, NameFaults, Enters, encodeFunction}
 use Rattle.compiler.proofs.Vocabulary.{CountsGroup}
 use Rattle.compiler.specs.Walks.{Items, noItem}
 use Rattle.compiler.proofs.Common.{means-unknown, means-global, keeps-all, pushed-keeps, pushed-name, did-none, First, first-of}
@@ -86,7 +86,7 @@ enters-far e en l₀ =
 abbrev pub IsFunction : (s : List ℕ) (at end : ℕ) → List Function → Type 0
 IsFunction = First encodeFunctions encodeFunction (λ f. 0) (λ f fs. f ∷ fs)
 
-pub is-function : {s : List ℕ} {at end : ℕ} (fs : List Function) → Lies s at (encodeFunctions fs) → end ≡ at + length (encodeFunctions fs) → at < end
+pub is-function : {s : List ℕ} {at end : ℕ} (fs : List Function) → Holds s at (encodeFunctions fs) → end ≡ at + length (encodeFunctions fs) → at < end
     → IsFunction s at end fs
 unfolding encodeFunctions
 is-function [] h e l = absurd (omega arith)
@@ -97,7 +97,7 @@ unfolding encodeFunctions
 no-function [] e l = refl
 no-function (f ∷ fs) e l = absurd (omega arith)
 
-function-items : {s : List ℕ} {at end : ℕ} (fs : List Function) → Lies s at (encodeFunctions fs) → end ≡ at + length (encodeFunctions fs)
+function-items : {s : List ℕ} {at end : ℕ} (fs : List Function) → Holds s at (encodeFunctions fs) → end ≡ at + length (encodeFunctions fs)
     → Items s end at (length fs)
 unfolding encodeFunctions
 function-items {at = at} [] h e = noItem {from = at} (omega arith)

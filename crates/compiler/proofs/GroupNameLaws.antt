@@ -7,7 +7,7 @@ use Rattle.compiler.proofs.Language.{Name, Function, Scope, lookup, Fau
 use Rattle.compiler.proofs.Language.{FineFunctions}
 use Rattle.language.specs.Names as N
 use Rattle.language.specs.Program.{among, startOf, withFunction, nameFault, alsoTaken, functionsAfter, takenAfter, groupNameFaults}
-use Rattle.compiler.proofs.Vocabulary.{Shows, Looked, found, nameAt, State, Did, Lies, Small, Taken, Starting, startsIn, started, NameFaults}
+use Rattle.compiler.proofs.Vocabulary.{Shows, Looked, found, nameAt, State, Did, Holds, Small, Taken, Starting, startsIn, started, NameFaults}
 use Rattle.compiler.proofs.Vocabulary.{Enters, encodeFunction, FineF, FineFs, ReadyGroup, GroupNames}
 use Rattle.compiler.specs.Commands.{nothing}
 use Rattle.compiler.proofs.Common.{keeps-lower, keeps-name, name-there, nil-left, nil-right, did-none, did-then, did-as, same-refl, Rest}
@@ -73,7 +73,7 @@ small-with sc name k (inGlobal n) h = h
 -- ---- the loop
 
 -- the name at the front of a function
-name-of : {s : List ℕ} {lo : ℕ} (f : Function) → Lies s lo (encodeFunction f) → nameAt s lo ≡ f .name
+name-of : {s : List ℕ} {lo : ℕ} (f : Function) → Holds s lo (encodeFunction f) → nameAt s lo ≡ f .name
 unfolding encodeName
 name-of {s} {lo} f h = name-there s lo (h .at 1 (omega arith)) (h .at 2 (omega arith))
 

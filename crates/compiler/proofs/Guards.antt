@@ -10,7 +10,8 @@ use Rattle.language.specs.Resolved as R
 use Rattle.code.specs.Generate as G
 use Rattle.tree.specs.Encoding as O
 use Rattle.compiler.proofs.Scoping.{keeps-all, keeps-then}
-use Rattle.compiler.proofs.Vocabulary.{State, Here, Ways, Node, FineE, FineC, FinePlain, leavableBy, NodeAt, Emits, Fresh, Lies, ReadyE, GaveE}
+use Rattle.compiler.proofs.Vocabulary.{State, Here, Ways, Node, FineE, FineC, FinePlain, leavableBy, NodeAt, Emits, Fresh}
+use Rattle.compiler.proofs.Vocabulary.{Holds, ReadyE, GaveE}
 use Rattle.compiler.specs.Commands.{cmdSays, ReadyC, GaveC, ReadyU, GaveU, WhenWord, anIf, anUnless, WhenKind}
 use Rattle.compiler.proofs.Done.{did-put, did-then, did-at, did-fresh, same-eq, code-is}
 use Rattle.compiler.proofs.Trees.{first, second, ends, size-is, kind-is}
@@ -28,9 +29,10 @@ pub record IsClosed (x : List ℕ) : Type 0 where
   pub kind : ℕ
   pub is : x ≡ closed inner value place kind
 
-pub closed-start : {s x : List ℕ} {lo end : ℕ} → IsClosed x → Lies s lo x → end ≡ lo + length x → (lo ≡ end - 4 - getD s (end - 4) 0) × (lo + 4 ≤ end)
+pub closed-start : {s x : List ℕ} {lo end : ℕ} → IsClosed x → Holds s lo x → end ≡ lo + length x
+    → (lo ≡ end - 4 - getD s (end - 4) 0) × (lo + 4 ≤ end)
 closed-start {s} {x} {lo} {end} u h e =
-    let w = u .inner in let v = u .value in let p = u .place in let k = u .kind in let h′ : Lies s lo (closed w v p k) = rw (u .is) at h in
+    let w = u .inner in let v = u .value in let p = u .place in let k = u .kind in let h′ : Holds s lo (closed w v p k) = rw (u .is) at h in
     let e′ : end ≡ lo + length (closed w v p k) = rw (e, u .is) in
     (omega (arith, ends w v p k h′ e′, size-is w v p k h′ e′), omega (arith, ends w v p k h′ e′))
 
@@ -81,16 +83,16 @@ pub record IsGuarded (s : List ℕ) (lo end w : ℕ) (u : Unlabelled) : Type 0 w
   pub test : Expression
   pub body : Command
   pub same : u ≡ T.guarded w test body
-  pub lies : Lies s lo (encode test)
-  pub lies-body : Lies s (lo + length (encode test)) (encodeCommand body)
+  pub lies : Holds s lo (encode test)
+  pub lies-body : Holds s (lo + length (encode test)) (encodeCommand body)
   pub ends : end ≡ lo + length (encode test) + length (encodeCommand body) + 4
 
-pub kind-of : {s x : List ℕ} {lo end : ℕ} (u : IsClosed x) → Lies s lo x → end ≡ lo + length x → getD s (end - 1) 0 ≡ u .kind
+pub kind-of : {s x : List ℕ} {lo end : ℕ} (u : IsClosed x) → Holds s lo x → end ≡ lo + length x → getD s (end - 1) 0 ≡ u .kind
 kind-of u h e =
     let w = u .inner in let v = u .value in let p = u .place in let k = u .kind in
     kind-is w v p k (rw (u .is) at h) (rw (e, u .is))
 
-pub guarded-of : {s : List ℕ} {lo end w : ℕ} {e : Expression} {c : Command} → Lies s lo (encode e ++ encodeCommand c)
+pub guarded-of : {s : List ℕ} {lo end w : ℕ} {e : Expression} {c : Command} → Holds s lo (encode e ++ encodeCommand c)
     → end ≡ lo + length (encode e ++ encodeCommand c) + 4 → IsGuarded s lo end w (T.guarded w e c)
 guarded-of {lo = lo} {e = e} {c} h q = record {
   test = e;

@@ -5,7 +5,7 @@ use Rattle.language.specs.Tree as T
 use Rattle.compiler.proofs.Language.{Item, Scope, declared, inBlock, onFound, fault, judgedWord, faultsOf, encodeName, encodeConstant}
 use Rattle.compiler.proofs.Language.{encodeItems, FineName, FineConstant, FineItem, FineItems}
 use Rattle.compiler.specs.Scope as S
-use Rattle.compiler.proofs.Vocabulary.{Shows, PushedName, Worded, code, nameAt, State, Did, Lies, STRINGS, Again, Verdict}
+use Rattle.compiler.proofs.Vocabulary.{Shows, PushedName, Worded, code, nameAt, State, Did, Holds, STRINGS, Again, Verdict}
 use Rattle.compiler.proofs.Common.{keeps-lower, keeps-name, name-there, pushed-keeps, pushed-name, did-none, did-then, did-as, same-refl}
 use Rattle.compiler.proofs.Common.{second, keeps-lies, First, first-of, Rest, rest-all, rest-next}
 use Rattle.compiler.specs.Commands.{nothing}
@@ -39,7 +39,7 @@ itemCode i = encodeName (i .name) ++ encodeConstant (i .constant)
 abbrev pub IsItem : (s : List ℕ) (at end : ℕ) → List Item → Type 0
 IsItem = First encodeItems itemCode (λ i. 0) (λ i is. i ∷ is)
 
-pub is-item : {s : List ℕ} {at end : ℕ} (is : List Item) → Lies s at (encodeItems is) → end ≡ at + length (encodeItems is) → at < end
+pub is-item : {s : List ℕ} {at end : ℕ} (is : List Item) → Holds s at (encodeItems is) → end ≡ at + length (encodeItems is) → at < end
     → IsItem s at end is
 unfolding encodeItems
 is-item [] h e l = absurd (omega arith)

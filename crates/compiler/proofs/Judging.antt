@@ -8,13 +8,14 @@ use Rattle.compiler.proofs.Language.{judgedWord, signed, ofFound, ofSim
 use Rattle.compiler.proofs.Language.{encodePositive, encodeNegative, encodeExpressions, FineName, FineNames, FineConstant}
 use Rattle.language.specs.Names as N
 use Rattle.code.specs.Generate as G
-use Rattle.compiler.proofs.Vocabulary.{Shows, Looked, code, found, nameAt, State, Here, Node, FineEs, NodeAt, Emits, Faulted, Lies, ReadyArgs}
+use Rattle.compiler.proofs.Vocabulary.{Shows, Looked, code, found, nameAt, State, Here, Node, FineEs, NodeAt, Emits, Faulted, Holds, ReadyArgs}
 use Rattle.compiler.proofs.Vocabulary.{GaveArgs, Verdict, ReadyNames, Declares}
 use Rattle.compiler.proofs.Common.{ready-names, keeps-all, keeps-then, keeps-shows, name-there, means-unknown, means-manifest, Held}
 use Rattle.compiler.proofs.Common.{looked-word, did-none, did-then, did-emit, did-as, same-refl, code-is, keeps-lies, kid, ends, value-is}
 use Rattle.compiler.proofs.Common.{place-is, size-is, kind-is, IsTwo, two-closed, sub}
 use Rattle.compiler.specs.Commands.{nothing}
-use Rattle.compiler.specs.Locals.{Says, fit, unfit, NamedConstant, Judges, JudgesMost, Blames, Local, aVector, someValues, encodeLocal}
+use Rattle.compiler.specs.Locals.{Says, says-good, says-refused, NamedConstant, Judges, JudgesMost, Blames}
+use Rattle.compiler.specs.Locals.{Local, aVector, someValues, encodeLocal}
 use Rattle.compiler.specs.Locals.{localDepth, FineLocal, scopeWith, heightWith, faultsL, localSays, ReadyLocal, GaveLocal}
 
 pub signed-minus : {b : Bool} {x : ℕ} (v : ℕ) → b ≡ true → x ≡ 65536 - v → x % 65536 ≡ signed b v
@@ -38,14 +39,14 @@ of-found P c n (N.known (N.function k)) a b d = d
 module _ {m : ℕ} (minus : Bool) {name place : ℕ} (fits : (name < 2 ^ 32) × (place < 2 ^ 32) × (m < 2 ^ 32)) where
   pub named-unknown : m ≡ 0 → NamedConstant m minus name place (record { word = 0; number = 8; place = name })
   named-unknown e = record {
-    by = λ c n f q em ep en. rw (means-unknown f q e, en) (unfit refl (λ z. omega arith) refl);
+    by = λ c n f q em ep en. rw (means-unknown f q e, en) (says-refused refl (λ z. omega arith) refl);
     fits = (fits .0, omega arith);
     low = omega arith;
   }
 
   pub named-manifest : {x : ℕ} → m % 4 ≡ 3 → x ≡ signed minus (m / 4) → NamedConstant m minus name place (record { word = x; number = 0; place = 0 })
   named-manifest {x} e ex = record {
-    by = λ c n f q em ep en. let w : x ≡ signed (c .minus) (m / 4) = rw (ex, em) in rw (means-manifest f q e, ← w) (fit refl);
+    by = λ c n f q em ep en. let w : x ≡ signed (c .minus) (m / 4) = rw (ex, em) in rw (means-manifest f q e, ← w) (says-good refl);
     fits = (omega arith, omega arith);
     low = omega (arith, signed-under minus (m / 4) (2 ^ 30) (omega arith) (omega arith));
   }
@@ -54,7 +55,7 @@ module _ {m : ℕ} (minus : Bool) {name place : ℕ} (fits : (name < 2 ^ 32) × 
   unfolding found code
   named-other n0 n3 = record {
     by = λ c n f q em ep en. of-found (Says (record { word = 0; number = 11; place = place })) c n f (λ z. absurd (n0 (q ∙ ap found z)))
-        (λ v z. let w = q ∙ ap found z in absurd (n3 (omega arith))) (rw ep (unfit refl (λ z. omega arith) refl));
+        (λ v z. let w = q ∙ ap found z in absurd (n3 (omega arith))) (rw ep (says-refused refl (λ z. omega arith) refl));
     fits = (fits .1, omega arith);
     low = omega arith;
   }
@@ -95,7 +96,7 @@ module _ (text : List ℕ) {s : List ℕ} {end : ℕ} (top : ℕ) (n : Node) (nd
     by = λ sc lo c sh fine h e. go sc lo (c .place) (c .minus) (c .simple) sh (fine .small, fine .place) h e;
   }
     where
-      go : (sc : Scope) (lo p : ℕ) (b : Bool) (x : Simple) → Shows s top sc → FineSimple p b x → Lies s lo
+      go : (sc : Scope) (lo p : ℕ) (b : Bool) (x : Simple) → Shows s top sc → FineSimple p b x → Holds s lo
           (cond b (encodeNegative p x) (encodePositive p x)) → end ≡ lo + length (cond b (encodeNegative p x) (encodePositive p x)) → Says r
           (ofSimple text sc (record { place = p; minus = b; simple = x }) x)
       go sc lo p false (T.literal v) sh f h e = number v (nd .kind ∙ kind-is [] v p 60 h e) (nd .value ∙ value-is [] v p 60 h e) (f .0 v refl)
@@ -112,7 +113,7 @@ module _ (text : List ℕ) {s : List ℕ} {end : ℕ} (top : ℕ) (n : Node) (nd
           (rw es at (name-there s lo (hc .at 1 (omega arith)) (hc .at 2 (omega arith)))) refl (sym (nd .place ∙ place-is c 0 p 36 h e))
 
   pub judge-number : n .kind ≡ 60 → Judges text s end top (record { word = n .value % 65536; number = 0; place = 0 })
-  judge-number q = judges (omega arith, omega arith) (omega arith) (λ v k e l. let w : v ≡ n .value % 65536 = omega arith in rw w (fit refl))
+  judge-number q = judges (omega arith, omega arith) (omega arith) (λ v k e l. let w : v ≡ n .value % 65536 = omega arith in rw w (says-good refl))
       (λ sc c x sh k en o m p. absurd (omega arith)) (λ v k z e. absurd (omega arith)) (λ sc c x sh k z en m p. absurd (omega arith))
 
   pub judge-name : {m : ℕ} {r : Verdict} → n .kind ≡ 59 → Looked text s top (n .inner) m → NamedConstant m false (n .place) (n .place) r
@@ -124,7 +125,7 @@ module _ (text : List ℕ) {s : List ℕ} {end : ℕ} (top : ℕ) (n : Node) (nd
   pub judge-negative : {w : ℕ} → (n .kind ≡ 60 → ⊥) → (n .kind ≡ 59 → ⊥) → n .start ≡ n .inner → w ≡ signed true (n .value)
       → Judges text s end top (record { word = w; number = 0; place = 0 })
   judge-negative n1 n2 q ew = judges (omega arith, omega arith) (omega arith) (λ v k e l. absurd (n1 k)) (λ sc c x sh k en o m p. absurd (n2 k))
-      (λ v k z e. rw (← (ew ∙ ap (signed true) e)) (fit refl)) (λ sc c x sh k z en m p. absurd (omega arith))
+      (λ v k z e. rw (← (ew ∙ ap (signed true) e)) (says-good refl)) (λ sc c x sh k z en m p. absurd (omega arith))
 
   pub judge-negated : {m name : ℕ} {r : Verdict} → (n .kind ≡ 60 → ⊥) → (n .kind ≡ 59 → ⊥) → (n .start ≡ n .inner → ⊥)
       → Looked text s top (n .start) m → name ≡ getD s (n .start + 2) 0 → NamedConstant m true name (n .place) r → Judges text s end top r
@@ -134,7 +135,7 @@ module _ (text : List ℕ) {s : List ℕ} {end : ℕ} (top : ℕ) (n : Node) (nd
 
 -- its place is that of its record
 constant-place : {s : List ℕ} {lo end : ℕ} (p : ℕ) (b : Bool) (x : Simple) → FineSimple p b x
-    → Lies s lo (cond b (encodeNegative p x) (encodePositive p x)) → end ≡ lo + length (cond b (encodeNegative p x) (encodePositive p x))
+    → Holds s lo (cond b (encodeNegative p x) (encodePositive p x)) → end ≡ lo + length (cond b (encodeNegative p x) (encodePositive p x))
     → getD s (end - 2) 0 ≡ p
 unfolding encodePositive encodeNegative encodeName
 constant-place p false (T.literal v) f h e = place-is [] v p 60 h e
@@ -142,7 +143,7 @@ constant-place p false (T.known x) f h e = place-is [] (x .width) (x .place) 59 
 constant-place p true (T.literal v) f h e = place-is [] v p 36 h e
 constant-place p true (T.known x) f h e = place-is (0 ∷ x .width ∷ x .place ∷ 59 ∷ []) 0 p 36 h e
 
-pub place-there : {s : List ℕ} {lo end : ℕ} (c : Constant) → FineConstant c → Lies s lo (encodeConstant c) → end ≡ lo + length (encodeConstant c)
+pub place-there : {s : List ℕ} {lo end : ℕ} (c : Constant) → FineConstant c → Holds s lo (encodeConstant c) → end ≡ lo + length (encodeConstant c)
     → getD s (end - 2) 0 ≡ c .place
 unfolding encodeConstant
 place-there c f h e = constant-place (c .place) (c .minus) (c .simple) (f .small, f .place) h e
@@ -150,13 +151,13 @@ place-there c f h e = constant-place (c .place) (c .minus) (c .simple) (f .small
 -- a test that a constant passes, and one that it fails
 module _ {j : Verdict} (c : Constant) (test : ℕ → Bool) where
   pub within-passes : (x : Judged) → (j .number ≡ 0 → test (j .word) ≡ true) → Says j x → Says j (within c test x)
-  within-passes (good v) p (fit q) = rw (p q) (fit q)
-  within-passes (refused fs) p (unfit a b w) = unfit a b w
+  within-passes (good v) p (says-good q) = rw (p q) (says-good q)
+  within-passes (refused fs) p (says-refused a b w) = says-refused a b w
 
   pub within-fails : (x : Judged) {place : ℕ} → (j .word ≡ 0 → j .number ≡ 0) → test (j .word) ≡ false → place ≡ c .place → Says j x
       → Says (record { word = 0; number = 11; place = place }) (within c test x)
-  within-fails (good v) n f e (fit q) = rw (f, ← e) (unfit refl (λ z. omega arith) refl)
-  within-fails (refused fs) n f e (unfit a b w) = absurd (b (sym a ∙ n w))
+  within-fails (good v) n f e (says-good q) = rw (f, ← e) (says-refused refl (λ z. omega arith) refl)
+  within-fails (refused fs) n f e (says-refused a b w) = absurd (b (sym a ∙ n w))
 
 module _ (most : ℕ) {text s : List ℕ} {end top : ℕ} {j : Verdict} (g : Judges text s end top j) where
   pub most-big : {p e₂ : ℕ} → most < j .word → e₂ ≡ end - 2 → p ≡ getD s e₂ 0 → p < 2 ^ 32
@@ -176,18 +177,18 @@ module _ (most : ℕ) {text s : List ℕ} {end top : ℕ} {j : Verdict} (g : Jud
   }
 
 pub blame-none : {j : Verdict} {st : State} → j .number ≡ 0 → Blames j st st
-blame-none e = record { by = λ x. elim [ fit q ↦ λ t. did-none 0 | unfit a b w ↦ λ t. absurd (b (sym a ∙ e)) ] }
+blame-none e = record { by = λ x. elim [ says-good q ↦ λ t. did-none 0 | says-refused a b w ↦ λ t. absurd (b (sym a ∙ e)) ] }
 
 pub blame-some : {j : Verdict} {st r : State} → (j .number ≡ 0 → ⊥) → Faulted (j .place) (j .number) st r → Blames j st r
-blame-some n f = record { by = λ x. elim [ fit q ↦ λ t. absurd (n q) | unfit a b w ↦ λ t. rw a at (f .by nothing t) ] }
+blame-some n f = record { by = λ x. elim [ says-good q ↦ λ t. absurd (n q) | says-refused a b w ↦ λ t. rw a at (f .by nothing t) ] }
 
 pub says-word : {j : Verdict} (x : Judged) → Says j x → j .word ≡ judgedWord x
-says-word (good v) (fit q) = refl
-says-word (refused fs) (unfit a b w) = w
+says-word (good v) (says-good q) = refl
+says-word (refused fs) (says-refused a b w) = w
 
 -- ---- a vector
 
-pub is-vector : {s : List ℕ} {lo end : ℕ} (x : Local) → Lies s lo (encodeLocal x) → end ≡ lo + length (encodeLocal x) → getD s (end - 1) 0 ≡ 6
+pub is-vector : {s : List ℕ} {lo end : ℕ} (x : Local) → Holds s lo (encodeLocal x) → end ≡ lo + length (encodeLocal x) → getD s (end - 1) 0 ≡ 6
     → IsTwo encodeName encodeConstant aVector s lo end x
 unfolding encodeLocal
 is-vector (aVector n c) h e q = two-closed encodeName encodeConstant aVector n c 0 6 h e
@@ -197,7 +198,7 @@ pub name-long : (n : Name) → length (encodeName n) ≡ 4
 unfolding encodeName
 name-long n = refl
 
-pub one-name : {s : List ℕ} {lo : ℕ} (n : Name) → Lies s lo (encodeName n) → Lies s lo (encodeNames (n ∷ []))
+pub one-name : {s : List ℕ} {lo : ℕ} (n : Name) → Holds s lo (encodeName n) → Holds s lo (encodeNames (n ∷ []))
 unfolding encodeNames encodeName
 one-name n h = h
 
@@ -223,7 +224,7 @@ module _ {s : List ℕ} {end : ℕ} {here : Here} {st : State} (n : Node) (nd : 
 
   abbrev pub vector-names : {e : ℕ} → e ≡ n .start + 4 → ReadyLocal s end here st → ReadyNames s (n .start) e (here .top) (here .height)
   vector-names ee y = let u = vector-is y in let four = name-long (u .left) in let a = vector-start y in
-      ready-names (y .base) (y .scope) (u .left ∷ []) (subst (λ (k : ℕ). Lies s k (encodeNames (u .left ∷ []))) (sym a)
+      ready-names (y .base) (y .scope) (u .left ∷ []) (subst (λ (k : ℕ). Holds s k (encodeNames (u .left ∷ []))) (sym a)
       (one-name (u .left) (u .lies))) (y .shows) (one-fine (vector-fine y .1)) (omega (arith, names-long (u .left ∷ [])))
 
   pub vector-gave : (text : List ℕ) {s₁ t t′ : List ℕ} {e hh : ℕ} {j : Verdict} {a b c : State} (ee : e ≡ n .start + 4)
@@ -253,7 +254,7 @@ module _ {s : List ℕ} {end : ℕ} {here : Here} {st : State} (n : Node) (nd : 
 
 -- ---- names with values
 
-pub is-values : {s : List ℕ} {lo end : ℕ} (x : Local) → Lies s lo (encodeLocal x) → end ≡ lo + length (encodeLocal x) → (getD s (end - 1) 0 ≡ 6 → ⊥)
+pub is-values : {s : List ℕ} {lo end : ℕ} (x : Local) → Holds s lo (encodeLocal x) → end ≡ lo + length (encodeLocal x) → (getD s (end - 1) 0 ≡ 6 → ⊥)
     → IsTwo encodeNames encodeExpressions someValues s lo end x
 unfolding encodeLocal
 is-values (aVector n c) h e q = absurd (q (kind-is (encodeName n ++ encodeConstant c) (length (encodeName n)) 0 6 h e))
@@ -286,7 +287,7 @@ module _ {s : List ℕ} {end : ℕ} {here : Here} {st : State} (n : Node) (nd : 
     abbrev pub values-names : ReadyLocal s end here st → ReadyNames s₁ (n .start) middle (here .top) (here .height)
     values-names y = let u = values-is y in let k = g .by (values-args y) .keeps in let a = values-start y in
         ready-names (y .base) (y .scope) (u .left)
-        (keeps-lies k (omega arith) (subst (λ (x : ℕ). Lies s x (encodeNames (u .left))) (sym (a .0)) (u .lies)))
+        (keeps-lies k (omega arith) (subst (λ (x : ℕ). Holds s x (encodeNames (u .left))) (sym (a .0)) (u .lies)))
         (keeps-shows k (omega arith) (y .shows)) (values-fine y .2) (omega (arith, names-long (u .left)))
 
     pub values-gave : {s₂ : List ℕ} {top height : ℕ} {b : State} → Declares text s₁ s₂ (n .start) middle (here .top) (here .height) a b

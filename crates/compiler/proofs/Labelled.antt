@@ -10,7 +10,7 @@ use Rattle.code.specs.Generate as G
 use Rattle.language.specs.Faults.{repeated}
 use Rattle.tree.specs.Encoding as O
 use Rattle.compiler.proofs.Common.{keeps-all, did-none, did-then, did-as, same-refl, same-eq, code-is, kind-is, IsTwo, two-closed, sub}
-use Rattle.compiler.proofs.Vocabulary.{State, Here, Ways, Node, FineC, FinePlain, inside, leavableBy, NodeAt, Lies, STRINGS, cmdSays, ReadyC}
+use Rattle.compiler.proofs.Vocabulary.{State, Here, Ways, Node, FineC, FinePlain, inside, leavableBy, NodeAt, Holds, STRINGS, cmdSays, ReadyC}
 use Rattle.compiler.proofs.Vocabulary.{GaveC, GaveCase, Repeated, encodeRepeated, deepRepeated, FineRepeated, ReadyR, GaveR, ReadyMisplaced}
 use Rattle.compiler.proofs.Vocabulary.{Misplaces}
 use Rattle.compiler.proofs.Calls.{with-state}
@@ -24,7 +24,7 @@ IsLabelled = IsTwo encodeLabels encodeRepeated (λ ls r. T.command ls (r .body) 
 
 -- a command without labels has another kind
 not-labelled : {s : List ℕ} {lo end : ℕ} (u : Unlabelled) (rs : Repeats) → FinePlain u
-    → Lies s lo (O.repeated (encodeUnlabelled u) (encodeRepeats rs))
+    → Holds s lo (O.repeated (encodeUnlabelled u) (encodeRepeats rs))
     → end ≡ lo + length (O.repeated (encodeUnlabelled u) (encodeRepeats rs)) → getD s (end - 1) 0 ≡ O.LABELLED → ⊥
 unfolding O.repeated encodeRepeats
 not-labelled {s} {lo} {end} u T.noRepeats f h e q = elim (rw q at (form-of s lo end u f h e)) [ ]
@@ -37,7 +37,7 @@ plain-when : (u : Unlabelled) (rs : Repeats) → FineC (T.command [] u rs) → F
 unfolding FineCommand
 plain-when u rs f = (f .1, λ z. omega (arith, f .3 .labels z))
 
-pub is-labelled : {s : List ℕ} {lo end : ℕ} (c : Command) → FineC c → Lies s lo (encodeCommand c) → end ≡ lo + length (encodeCommand c)
+pub is-labelled : {s : List ℕ} {lo end : ℕ} (c : Command) → FineC c → Holds s lo (encodeCommand c) → end ≡ lo + length (encodeCommand c)
     → getD s (end - 1) 0 ≡ O.LABELLED → IsLabelled s lo end c
 unfolding encodeCommand labelled encodeLabels
 is-labelled (T.command [] u rs) f h e q = absurd (not-labelled u rs (plain-when u rs f) h e q)
@@ -51,10 +51,10 @@ is-labelled (T.command (T.default p ∷ ls) u rs) f h e q =
 pub record IsBare (s : List ℕ) (lo end : ℕ) (c : Command) : Type 0 where
   pub part : Repeated
   pub same : c ≡ T.command [] (part .body) (part .forms)
-  pub lies : Lies s lo (encodeRepeated part)
+  pub lies : Holds s lo (encodeRepeated part)
   pub ends : end ≡ lo + length (encodeRepeated part)
 
-pub is-bare : {s : List ℕ} {lo end : ℕ} (c : Command) → Lies s lo (encodeCommand c) → end ≡ lo + length (encodeCommand c)
+pub is-bare : {s : List ℕ} {lo end : ℕ} (c : Command) → Holds s lo (encodeCommand c) → end ≡ lo + length (encodeCommand c)
     → (getD s (end - 1) 0 ≡ O.LABELLED → ⊥) → IsBare s lo end c
 unfolding encodeCommand labelled encodeLabels
 is-bare (T.command [] u rs) h e q = record { part = record { body = u; forms = rs }; same = refl; lies = h; ends = e }
@@ -127,7 +127,7 @@ module _ {s : List ℕ} {end : ℕ} {here : Here} {st : State} (n : Node) (nd : 
     base = y .base;
     scope = y .scope;
     labels = u .left;
-    lies = subst (λ (k : ℕ). Lies s k (encodeLabels (u .left))) (sym (labelled-start y .0)) (u .lies);
+    lies = subst (λ (k : ℕ). Holds s k (encodeLabels (u .left))) (sym (labelled-start y .0)) (u .lies);
     ends = omega (arith, labelled-start y);
     above = omega (arith, labelled-start y);
     small = omega (arith, labelled-start y);

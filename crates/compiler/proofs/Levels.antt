@@ -11,7 +11,7 @@ use Rattle.language.specs.Program.{Walk, startOf, withFunction, resolved, globa
 use Rattle.language.specs.Program.{groupFaults, groupOf, heightFaults, afterDeclaration}
 use Rattle.language.specs.Whole.{funs}
 use Rattle.code.specs.Generate as G
-use Rattle.compiler.proofs.Vocabulary.{STRINGS, Did, least, noFit, Lies, State, Here}
+use Rattle.compiler.proofs.Vocabulary.{STRINGS, Did, least, noFit, Holds, State, Here}
 use Rattle.compiler.specs.Commands.{nothing}
 use Rattle.compiler.specs.Items.{after, faults, FineIs, ReadyItems, ItemsKnown, Items}
 use Rattle.compiler.specs.Groups.{Small, Starting, startsIn, innerLabels, ReadyGroup, GroupKnown, GroupNames, ReadyFs, GaveFs, GroupWalked}
@@ -114,7 +114,7 @@ module _ {s table : List ℕ} {from end tag left strings : ℕ} {l : Progress} (
     base = y .base;
     scope = y .walk .scope;
     items = its .items;
-    lies = subst (Lies s from) its-encoded (y .lies);
+    lies = subst (Holds s from) its-encoded (y .lies);
     ends = rw (y .ends, its-encoded);
     above = y .above;
     long = y .long;

@@ -1,7 +1,7 @@
 -- Lists in scratch: each item has its size and a word in front. What an item is, and a loop over the items.
 use Rattle.laws.proofs.Basics.{ℕ, _+_, _*_, _^_, _<_, _≤_, _≡_, refl, sym, ap, subst, _∙_, List, [], _∷_, _++_, length, getD, length-append, arith}
 use Rattle.language.specs.Constants.{Fault}
-use Rattle.compiler.proofs.Vocabulary.{Keeps, State, Here, Did, Code, Lies, Ready}
+use Rattle.compiler.proofs.Vocabulary.{Keeps, State, Here, Did, Code, Holds, Ready}
 use Rattle.compiler.proofs.Scoping.{keeps-all, keeps-then}
 use Rattle.compiler.proofs.Trees.{first, second}
 use Rattle.compiler.proofs.Parts.{sub}
@@ -14,12 +14,12 @@ pub record First {L A : Type 0} (all : L → List ℕ) (one : A → List ℕ) (w
     pub same : xs ≡ with part more
     pub size-of : getD s at 0 ≡ length (one part)
     pub word-of : getD s (at + 1) 0 ≡ word part
-    pub lies : Lies s (at + 2) (one part)
-    pub lies-more : Lies s (at + 2 + length (one part)) (all more)
+    pub lies : Holds s (at + 2) (one part)
+    pub lies-more : Holds s (at + 2 + length (one part)) (all more)
     pub ends : end ≡ at + 2 + length (one part) + length (all more)
 
 pub first-of : {L A : Type 0} (all : L → List ℕ) (one : A → List ℕ) (word : A → ℕ) (with : A → L → L) {s : List ℕ} {at end : ℕ} (x : A) (xs : L)
-    → Lies s at (length (one x) ∷ word x ∷ (one x ++ all xs)) → end ≡ at + length (length (one x) ∷ word x ∷ (one x ++ all xs))
+    → Holds s at (length (one x) ∷ word x ∷ (one x ++ all xs)) → end ≡ at + length (length (one x) ∷ word x ∷ (one x ++ all xs))
     → First all one word with s at end (with x xs)
 first-of all one word with {s} {at} x xs h e =
     let a : at + 0 ≡ at = omega arith in let r = second (length (one x) ∷ word x ∷ []) (one x ++ all xs) (at + 2) h refl in
@@ -37,12 +37,12 @@ first-of all one word with {s} {at} x xs h e =
 -- a loop over a list: at `at` the rest is left, and s keeps what stands from `base` on
 pub record Rest {L : Type 0} (all : L → List ℕ) (base top : ℕ) (s₀ s : List ℕ) (end at : ℕ) : Type 0 where
   pub rest : L
-  pub lies : Lies s₀ at (all rest)
+  pub lies : Holds s₀ at (all rest)
   pub ends : end ≡ at + length (all rest)
   pub above : base ≤ at
   pub keeps : Keeps base top s₀ s
 
-abbrev pub rest-all : {L : Type 0} {all : L → List ℕ} {base top : ℕ} {s₀ : List ℕ} {end from : ℕ} (xs : L) → Lies s₀ from (all xs)
+abbrev pub rest-all : {L : Type 0} {all : L → List ℕ} {base top : ℕ} {s₀ : List ℕ} {end from : ℕ} (xs : L) → Holds s₀ from (all xs)
     → end ≡ from + length (all xs) → base ≤ from → Rest all base top s₀ s₀ end from
 rest-all xs h e l = record { rest = xs; lies = h; ends = e; above = l; keeps = keeps-all }
 
@@ -54,7 +54,7 @@ module _ {L A : Type 0} {all : L → List ℕ} {one : A → List ℕ} {word : A 
   abbrev pub rest-next : {s₁ : List ℕ} {next : ℕ} → next ≡ at + 2 + size → Keeps base top s s₁ → Rest all base top s₀ s₁ end next
   rest-next en k = record {
     rest = u .more;
-    lies = subst (λ (n : ℕ). Lies s₀ n (all (u .more))) (omega (arith, taken-sizes)) (u .lies-more);
+    lies = subst (λ (n : ℕ). Holds s₀ n (all (u .more))) (omega (arith, taken-sizes)) (u .lies-more);
     ends = omega (arith, u .ends, taken-sizes);
     above = omega arith;
     keeps = keeps-then (p .keeps) k;
@@ -71,7 +71,7 @@ pub record Kind (L A : Type 0) : Type 1 where
   pub deep-one : A → ℕ
   pub Fine : L → Type 0
   pub Fine-one : A → Type 0
-  pub takes : {s : List ℕ} {at end : ℕ} (xs : L) → Lies s at (all xs) → end ≡ at + length (all xs) → at < end → First all one word with s at end xs
+  pub takes : {s : List ℕ} {at end : ℕ} (xs : L) → Holds s at (all xs) → end ≡ at + length (all xs) → at < end → First all one word with s at end xs
   pub empty : (xs : L) → length (all xs) ≡ 0 → xs ≡ none
   pub deeper : (x : A) (xs : L) (k : ℕ) → deep (with x xs) ≤ k → (deep-one x ≤ k) × (deep xs ≤ k)
   pub finer : (x : A) (xs : L) → Fine (with x xs) → Fine-one x × Fine xs
@@ -80,7 +80,7 @@ pub record Kind (L A : Type 0) : Type 1 where
 pub record Part {L A : Type 0} (k : Kind L A) (few : L → ℕ) (fs : ℕ → L → List Fault) (code : ℕ → L → ℕ → Code) (all : L)
     (from end base top left h₀ h i₀ i : ℕ) (s₀ s t₀ t : List ℕ) (st₀ st : State) (at : ℕ) : Type 0 where
   pub rest : L
-  pub lies : Lies s₀ at (k .all rest)
+  pub lies : Holds s₀ at (k .all rest)
   pub ends : end ≡ at + length (k .all rest)
   pub starts : from ≤ at
   pub keeps : Keeps base top s₀ s
@@ -145,7 +145,7 @@ module _ {L A : Type 0} {k : Kind L A} {few : L → ℕ} {fs : ℕ → L → Lis
         → Part k few fs code (z .tree) from end (z .base) (here .top) (here .left) (here .height) h′ i₀ i′ s₀ s₁ t₀ t₁ st₀ st₁ next
     goes-on kept up labels some step = record {
       rest = item .more;
-      lies = subst (λ (n : ℕ). Lies s₀ n (k .all (item .more))) (omega (arith, one-size)) (item .lies-more);
+      lies = subst (λ (n : ℕ). Holds s₀ n (k .all (item .more))) (omega (arith, one-size)) (item .lies-more);
       ends = omega (arith, item .ends, one-size);
       starts = omega arith;
       keeps = keeps-then (p .keeps) kept;

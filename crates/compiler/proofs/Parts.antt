@@ -2,19 +2,19 @@
 use Rattle.laws.proofs.Basics.{ℕ, _+_, _-_, _*_, _^_, _<_, _≤_, _≡_, refl, _∙_, List, _++_, length, getD, length-append, arith}
 use Rattle.tree.specs.Encoding.{closed}
 use Rattle.compiler.proofs.Language.{Name, Scope, encodeNames, FineNames}
-use Rattle.compiler.proofs.Vocabulary.{Shows, Keeps, State, Here, Lies, Ready, ReadyNames}
+use Rattle.compiler.proofs.Vocabulary.{Shows, Keeps, State, Here, Holds, Ready, ReadyNames}
 use Rattle.compiler.proofs.Scoping.{keeps-shows}
 use Rattle.compiler.proofs.Trees.{first, second, keeps-lies, kid, ends, value-is, size-is, IsTwo, is-two}
 
 -- two parts, one after the other, in one record
 pub record TwoAt (s : List ℕ) (lo end : ℕ) (x y : List ℕ) : Type 0 where
-  pub lies : Lies s lo x
-  pub lies-list : Lies s (lo + length x) y
+  pub lies : Holds s lo x
+  pub lies-list : Holds s (lo + length x) y
   pub value-of : getD s (end - 3) 0 ≡ length x
   pub size-of : getD s (end - 4) 0 ≡ length x + length y
   pub ends : end ≡ lo + length x + length y + 4
 
-pub two-at : {s : List ℕ} {lo end : ℕ} (x y : List ℕ) (p k : ℕ) → Lies s lo (closed (x ++ y) (length x) p k)
+pub two-at : {s : List ℕ} {lo end : ℕ} (x y : List ℕ) (p k : ℕ) → Holds s lo (closed (x ++ y) (length x) p k)
     → end ≡ lo + length (closed (x ++ y) (length x) p k) → TwoAt s lo end x y
 two-at {lo = lo} x y p k h e = let w = x ++ y in let v = length x in record {
   lies = first x y (kid w v p k h e);
@@ -25,7 +25,7 @@ two-at {lo = lo} x y p k h e = let w = x ++ y in let v = length x in record {
 }
 
 pub two-closed : {A L T : Type 0} (one : A → List ℕ) (enc : L → List ℕ) (Is : A → L → T) {s : List ℕ} {lo end : ℕ} (x : A) (xs : L) (p k : ℕ)
-    → Lies s lo (closed (one x ++ enc xs) (length (one x)) p k) → end ≡ lo + length (closed (one x ++ enc xs) (length (one x)) p k)
+    → Holds s lo (closed (one x ++ enc xs) (length (one x)) p k) → end ≡ lo + length (closed (one x ++ enc xs) (length (one x)) p k)
     → IsTwo one enc Is s lo end (Is x xs)
 two-closed one enc Is x xs p k h e = let w = one x ++ enc xs in let v = length (one x) in
     is-two one enc Is x xs (kid w v p k h e) (size-is w v p k h e) (value-is w v p k h e) (ends w v p k h e)
@@ -46,7 +46,7 @@ module _ {A B : Type 0} {encA : A → List ℕ} {deepA : A → ℕ} {FineA : A �
     {s s′ : List ℕ} {end : ℕ} {here : Here} {st : State} {end′ lo′ : ℕ} {here′ : Here} {st′ : State} {part : B}
     (y : Ready encA deepA FineA s end here st) (k : Keeps (y .base) (here .top) s s′) where
   -- in another scope
-  abbrev pub moved : (sc : Scope) → Lies s lo′ (encB part) → Shows s′ (here′ .top) sc → here′ .top * 2 + length (encB part) ≤ y .base * 2
+  abbrev pub moved : (sc : Scope) → Holds s lo′ (encB part) → Shows s′ (here′ .top) sc → here′ .top * 2 + length (encB part) ≤ y .base * 2
       → Fits encB deepB (y .lo) end here lo′ end′ here′ st′ part → FineB part → Ready encB deepB FineB s′ end′ here′ st′
   moved sc h shows room f fine = record {
     base = y .base;
@@ -69,12 +69,12 @@ module _ {A B : Type 0} {encA : A → List ℕ} {deepA : A → ℕ} {FineA : A �
   }
 
   -- in the same scope
-  abbrev pub sub : Lies s lo′ (encB part) → here′ .top ≡ here .top → Fits encB deepB (y .lo) end here lo′ end′ here′ st′ part → FineB part
+  abbrev pub sub : Holds s lo′ (encB part) → here′ .top ≡ here .top → Fits encB deepB (y .lo) end here lo′ end′ here′ st′ part → FineB part
       → Ready encB deepB FineB s′ end′ here′ st′
   sub h top f fine = moved (y .scope) h (keeps-shows k (omega arith) (rw top (y .shows))) (omega arith) f fine
 
 -- names that stand there, with room for them
-abbrev pub ready-names : {s : List ℕ} {from end top height : ℕ} (base : ℕ) (sc : Scope) (ns : List Name) → Lies s from (encodeNames ns)
+abbrev pub ready-names : {s : List ℕ} {from end top height : ℕ} (base : ℕ) (sc : Scope) (ns : List Name) → Holds s from (encodeNames ns)
     → Shows s top sc → FineNames ns → (end ≡ from + length (encodeNames ns)) × (base ≤ from) × (base ≤ length s) × (end < 2 ^ 32)
     × (top + 2 * length ns ≤ base) × (height + length ns ≤ 2 ^ 29) → ReadyNames s from end top height
 ready-names base sc ns h sh f b = record {

@@ -10,7 +10,7 @@ use Rattle.code.specs.Generate as G
 use Rattle.language.specs.Faults as Y
 use Rattle.tree.specs.Encoding as O
 use Rattle.compiler.proofs.Vocabulary.{Keeps, State, Here, Ways, Node, FineE, FinePlain, FineRs, inLoop, leavable, leavableBy, exits, NodeAt}
-use Rattle.compiler.proofs.Vocabulary.{Code, Did, Emits, Fresh, Lies, Ready, GaveE, Counts, cmdSays, ReadyU, GaveU, encodeRepeated, ReadyR}
+use Rattle.compiler.proofs.Vocabulary.{Code, Did, Emits, Fresh, Holds, Ready, GaveE, Counts, cmdSays, ReadyU, GaveU, encodeRepeated, ReadyR}
 use Rattle.compiler.proofs.Vocabulary.{GaveR, ReadyForms, GaveForms, formSays, ReadyForm, GaveForm}
 use Rattle.compiler.proofs.Common.{keeps-all, keeps-then, emits-did, did-none, did-put, did-after, did-then, did-as, did-at, did-fresh}
 use Rattle.compiler.proofs.Common.{same-refl, same-eq, code-is, kind-is, TwoAt, two-at, sub, First, first-of, Kind, Part, begins, item}
@@ -52,7 +52,7 @@ abbrev pub oneSays : List ℕ → Here → Scope → (own : ℕ) → AForm → �
 oneSays text x sc own alone n = record { items = G.JL own ∷ []; heights = []; labels = 0 }
 oneSays text x sc own (onTest w e) n = formSays text x sc w own e n
 
-pub is-form : {s : List ℕ} {at end : ℕ} (rs : Repeats) → Lies s at (encodeRepeats rs) → end ≡ at + length (encodeRepeats rs) → at < end
+pub is-form : {s : List ℕ} {at end : ℕ} (rs : Repeats) → Holds s at (encodeRepeats rs) → end ≡ at + length (encodeRepeats rs) → at < end
     → First encodeRepeats formEncoding formWord withForm s at end rs
 unfolding encodeRepeats
 is-form T.noRepeats h e l = absurd (omega arith)
@@ -199,7 +199,8 @@ form-tested text {t₁ = t₁} {t₂} {own = own} {a = a} {r} n g ej f = record 
 
 -- ---- a command with REPEAT forms
 
-is-repeated : {s : List ℕ} {lo end : ℕ} (u : Unlabelled) (rs : Repeats) → FinePlain u → Lies s lo (O.repeated (encodeUnlabelled u) (encodeRepeats rs))
+is-repeated : {s : List ℕ} {lo end : ℕ} (u : Unlabelled) (rs : Repeats) → FinePlain u
+    → Holds s lo (O.repeated (encodeUnlabelled u) (encodeRepeats rs))
     → end ≡ lo + length (O.repeated (encodeUnlabelled u) (encodeRepeats rs)) → getD s (end - 1) 0 ≡ O.REPEATED
     → (1 ≤ forms rs) × TwoAt s lo end (encodeUnlabelled u) (encodeRepeats rs)
 unfolding O.repeated encodeRepeats forms
@@ -207,7 +208,7 @@ is-repeated {s} {lo} {end} u T.noRepeats f h e q = elim (rw q at (form-of s lo e
 is-repeated u (T.repeat rs) f h e q = (omega arith, two-at (encodeUnlabelled u) (encodeRepeats (T.repeat rs)) 0 O.REPEATED h e)
 is-repeated u (T.repeatOn w d rs) f h e q = (omega arith, two-at (encodeUnlabelled u) (encodeRepeats (T.repeatOn w d rs)) 0 O.REPEATED h e)
 
-is-once : {s : List ℕ} {lo end : ℕ} (u : Unlabelled) (rs : Repeats) → Lies s lo (O.repeated (encodeUnlabelled u) (encodeRepeats rs))
+is-once : {s : List ℕ} {lo end : ℕ} (u : Unlabelled) (rs : Repeats) → Holds s lo (O.repeated (encodeUnlabelled u) (encodeRepeats rs))
     → end ≡ lo + length (O.repeated (encodeUnlabelled u) (encodeRepeats rs)) → (getD s (end - 1) 0 ≡ O.REPEATED → ⊥)
     → (rs ≡ T.noRepeats) × (O.repeated (encodeUnlabelled u) (encodeRepeats rs) ≡ encodeUnlabelled u)
 unfolding O.repeated encodeRepeats

@@ -4,9 +4,9 @@ use Rattle.laws.proofs.Basics.{none, length, getD, length-append, eqb, arith, e
 use Rattle.language.specs.Tree as T
 use Rattle.compiler.proofs.Language.{Simple, Constant, Label, Scope, fault, judge, faultsOf, misplaced, FineConstant, FineLabels, closed}
 use Rattle.compiler.proofs.Language.{encodeName, encodeConstant, encodePositive, encodeNegative, encodeBy, encodeLabels}
-use Rattle.compiler.proofs.Vocabulary.{Shows, State, Node, NodeAt, Did, Faulted, Lies, Verdict, JudgesBy, byJudged, ReadyMisplaced, Misplaces}
+use Rattle.compiler.proofs.Vocabulary.{Shows, State, Node, NodeAt, Did, Faulted, Holds, Verdict, JudgesBy, byJudged, ReadyMisplaced, Misplaces}
 use Rattle.compiler.specs.Commands.{nothing}
-use Rattle.compiler.specs.Locals.{Says, fit, Judges, Blames}
+use Rattle.compiler.specs.Locals.{Says, says-good, Judges, Blames}
 use Rattle.compiler.specs.Labels.{Row, noMore, andMore, NextItem, LabelAt, aCase, aDefault, MisplacesLabel}
 use Rattle.compiler.proofs.Common.{did-none, did-then, did-as, same-eq, first, second, kid, ends, place-is, kind-is}
 use Rattle.compiler.proofs.Judging.{place-there, within-passes, within-fails}
@@ -28,12 +28,12 @@ module _ (text : List ℕ) {s : List ℕ} {from end top : ℕ} where
   unfolding encodeBy
   by-none l = record {
     fits = (omega arith, omega arith);
-    by = λ sc. elim [ none ↦ λ sh f h e. fit refl | some c ↦ λ sh f h e. absurd (omega (arith, constant-long c)) ];
+    by = λ sc. elim [ none ↦ λ sh f h e. says-good refl | some c ↦ λ sh f h e. absurd (omega (arith, constant-long c)) ];
   }
 
   -- whatever a constant there is judged, if there is one
   judges-by : {r : Verdict} → from < end → (r .place < 2 ^ 32) × (r .number < 32) →
-      ((sc : Scope) (c : Constant) → Shows s top sc → FineConstant c → Lies s from (encodeConstant c) → end ≡ from + length (encodeConstant c) → Says
+      ((sc : Scope) (c : Constant) → Shows s top sc → FineConstant c → Holds s from (encodeConstant c) → end ≡ from + length (encodeConstant c) → Says
       r (byJudged text sc (some c))) → JudgesBy text s from end top r
   unfolding encodeBy
   judges-by l f g = record { fits = f; by = λ sc. elim [ none ↦ λ sh f h e. absurd (omega arith) | some c ↦ λ sh f h e. g sc c sh f h e ] }
@@ -77,24 +77,24 @@ module _ {A : Type 0} {P : ℕ → A → Type 0} {s : List ℕ} {end : ℕ} wher
 
 -- ---- labels stand in a row
 
-pub an-item : {s : List ℕ} {at end tag : ℕ} (w rest : List ℕ) → Lies s at (length w ∷ tag ∷ (w ++ rest))
+pub an-item : {s : List ℕ} {at end tag : ℕ} (w rest : List ℕ) → Holds s at (length w ∷ tag ∷ (w ++ rest))
     → end ≡ at + length (length w ∷ tag ∷ (w ++ rest)) → {T : Type 0} →
-    (at + 2 + getD s at 0 ≡ at + 2 + length w → Lies s (at + 2) w → Lies s (at + 2 + getD s at 0) rest → end ≡ at + 2 + getD s at 0 + length rest → T)
-    → T
+    (at + 2 + getD s at 0 ≡ at + 2 + length w → Holds s (at + 2) w → Holds s (at + 2 + getD s at 0) rest
+    → end ≡ at + 2 + getD s at 0 + length rest → T) → T
 an-item {s} {at} {end} {tag} w rest h e f =
     let a : at + 0 ≡ at = omega arith in let z : getD s at 0 ≡ length w = ap (λ (k : ℕ). getD s k 0) (sym a) ∙ h .at 0 (omega arith) in
     let r = second (length w ∷ tag ∷ []) (w ++ rest) (at + 2) h refl in
     f (omega arith) (first w rest r) (second w rest (at + 2 + getD s at 0) r (omega arith)) (omega (arith, length-append w rest))
 
-case-at : {s : List ℕ} {lo end : ℕ} (p : ℕ) (c : Constant) → FineConstant c → Lies s lo (closed (encodeConstant c) 0 p 28)
+case-at : {s : List ℕ} {lo end : ℕ} (p : ℕ) (c : Constant) → FineConstant c → Holds s lo (closed (encodeConstant c) 0 p 28)
     → end ≡ lo + length (closed (encodeConstant c) 0 p 28) → LabelAt s end (T.case p c)
 case-at p c f h e = let w = encodeConstant c in
     aCase (kind-is w 0 p 28 h e) (place-is w 0 p 28 h e) (kid w 0 p 28 h e) (omega (arith, ends w 0 p 28 h e)) f
 
-default-at : {s : List ℕ} {lo end : ℕ} (p : ℕ) → Lies s lo (closed [] 0 p 29) → end ≡ lo + length (closed [] 0 p 29) → LabelAt s end (T.default p)
+default-at : {s : List ℕ} {lo end : ℕ} (p : ℕ) → Holds s lo (closed [] 0 p 29) → end ≡ lo + length (closed [] 0 p 29) → LabelAt s end (T.default p)
 default-at p h e = aDefault (kind-is [] 0 p 29 h e) (place-is [] 0 p 29 h e)
 
-pub labels-row : {s : List ℕ} {at end : ℕ} (ls : List Label) → FineLabels ls → Lies s at (encodeLabels ls) → end ≡ at + length (encodeLabels ls)
+pub labels-row : {s : List ℕ} {at end : ℕ} (ls : List Label) → FineLabels ls → Holds s at (encodeLabels ls) → end ≡ at + length (encodeLabels ls)
     → Row (LabelAt s) s end at ls
 unfolding encodeLabels FineLabels
 labels-row {at = at} [] f h e = noMore {at = at} (omega arith)

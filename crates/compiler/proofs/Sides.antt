@@ -14,7 +14,7 @@ use Rattle.code.specs.Generate as G
 use Rattle.code.specs.Generate.{exprCode, exprLabels, monadicAct}
 use Rattle.tree.specs.Encoding as O
 use Rattle.compiler.proofs.Vocabulary.{code, found, nameAt, Looked, State, Here, Node, FineE, inside, raised, leavable, NodeAt, Code, Did}
-use Rattle.compiler.proofs.Vocabulary.{Emits, Faulted, Lies, Result, ReadyE, GaveE, ReadySuffixes, GaveSuffixes}
+use Rattle.compiler.proofs.Vocabulary.{Emits, Faulted, Holds, Result, ReadyE, GaveE, ReadySuffixes, GaveSuffixes}
 use Rattle.compiler.proofs.Scoping.{keeps-all, keeps-then, code-not}
 use Rattle.compiler.specs.Commands.{exprSays, targetSays, GaveMonadic, GaveAddress, GaveAddressIndex, GaveSide, GaveSideIndex, IndexKind}
 use Rattle.compiler.specs.Commands.{GaveRefused, AddressOf, StoreTo}
@@ -29,12 +29,12 @@ use Rattle.compiler.proofs.Guards.{IsClosed, expression-closed, kind-of
 
 -- ---- places and values of records
 
-pub place-of : {s x : List ℕ} {lo end : ℕ} (u : IsClosed x) → Lies s lo x → end ≡ lo + length x → getD s (end - 2) 0 ≡ u .place
+pub place-of : {s x : List ℕ} {lo end : ℕ} (u : IsClosed x) → Holds s lo x → end ≡ lo + length x → getD s (end - 2) 0 ≡ u .place
 place-of u h e =
     let w = u .inner in let v = u .value in let p = u .place in let k = u .kind in
     place-is w v p k (rw (u .is) at h) (rw (e, u .is))
 
-pub value-of : {s x : List ℕ} {lo end : ℕ} (u : IsClosed x) → Lies s lo x → end ≡ lo + length x → getD s (end - 3) 0 ≡ u .value
+pub value-of : {s x : List ℕ} {lo end : ℕ} (u : IsClosed x) → Holds s lo x → end ≡ lo + length x → getD s (end - 3) 0 ≡ u .value
 value-of u h e =
     let w = u .inner in let v = u .value in let p = u .place in let k = u .kind in
     value-is w v p k (rw (u .is) at h) (rw (e, u .is))
@@ -58,7 +58,7 @@ pub record IsMonadic (s : List ℕ) (lo end : ℕ) (e : Expression) : Type 0 whe
   pub part : Expression
   pub same : e ≡ T.monadic place operator part
   pub value-of : getD s (end - 3) 0 ≡ operator
-  pub lies : Lies s lo (encode part)
+  pub lies : Holds s lo (encode part)
   pub ends : end ≡ lo + length (encode part) + 4
 
 pub is-monadic : {s : List ℕ} {lo end : ℕ} {e : Expression} → Case s lo end 128 e → IsMonadic s lo end e

@@ -5,8 +5,8 @@ use Rattle.laws.proofs.Cases.{by-cases}
 use Rattle.items.specs.Item as I
 use Rattle.language.specs.Resolved.{Start, nowhere, inGlobal, Fun}
 use Rattle.code.specs.Generate.{startIn, startsCode}
-use Rattle.writing.specs.Text.{Puts, line, lines}
-use Rattle.writing.proofs.Laws.{puts-then, puts-as, puts-none, lines-then}
+use Rattle.writing.specs.Text.{Appends, line, lines}
+use Rattle.writing.proofs.Laws.{appends-then, appends-as, appends-none, lines-then}
 use Rattle.compiler.proofs.Vocabulary.{Starting, startsOf}
 use Rattle.compiler.specs.Strings.{FindsGlobal, StartsAt, WritesStart, WritesStarts}
 
@@ -32,14 +32,14 @@ passed-end h p = record { is = λ l. absurd (omega arith); none = λ _ m l e. p 
 -- ---- one function
 
 pub start-put : {table : List ℕ} {label n at r : ℕ} {t t′ : List ℕ} → FindsGlobal table label n → n < 400
-    → Puts (line (I.global n label)) at r t t′ → WritesStart table label at r t t′
+    → Appends (line (I.global n label)) at r t t′ → WritesStart table label at r t t′
 unfolding lines
-start-put {table} {label} {n} f h p = record { by = λ start s. rw (s .is n h (f .is h)) (puts-as p (append-nil (line (I.global n label)))) }
+start-put {table} {label} {n} f h p = record { by = λ start s. rw (s .is n h (f .is h)) (appends-as p (append-nil (line (I.global n label)))) }
 
 pub start-none : {table : List ℕ} {label n at : ℕ} {t : List ℕ} → FindsGlobal table label n → 400 ≤ n → WritesStart table label at at t t
 unfolding lines
 start-none f h = record {
-  by = elim [ nowhere ↦ λ s. puts-none | inGlobal m ↦ λ s. absurd (let q = s .has m refl in f .none h m (q .0) (q .1)) ];
+  by = elim [ nowhere ↦ λ s. appends-none | inGlobal m ↦ λ s. absurd (let q = s .has m refl in f .none h m (q .0) (q .1)) ];
 }
 
 -- ---- all of them: k functions are done
@@ -49,14 +49,14 @@ pub record StartsPart (k at x : ℕ) (t t′ : List ℕ) (fs : List Fun) : Type 
   pub rest : List Fun
   pub all : fs ≡ done ++ rest
   pub count : k ≡ length done
-  pub puts : Puts (lines (startsCode 1 done)) at x t t′
+  pub text : Appends (lines (startsCode 1 done)) at x t t′
 
 pub record StartsSoFar (table : List ℕ) (functions k at x : ℕ) (t t′ : List ℕ) : Type 0 where
   pub by : (fs : List Fun) → length table ≡ 400 → functions ≡ length fs → Starting table (startsOf fs) → StartsPart k at x t t′ fs
 
 pub starts-begin : {table : List ℕ} {functions at : ℕ} {t : List ℕ} → StartsSoFar table functions 0 at at t t
 unfolding startsCode lines
-starts-begin = record { by = λ fs l e s. record { done = []; rest = fs; all = refl; count = refl; puts = puts-none } }
+starts-begin = record { by = λ fs l e s. record { done = []; rest = fs; all = refl; count = refl; text = appends-none } }
 
 starts-then : (l : ℕ) (a b : List Fun) → startsCode l (a ++ b) ≡ startsCode l a ++ startsCode (l + length a) b
 unfolding startsCode
@@ -104,7 +104,7 @@ starts-next {k = k} h w q = record {
         rest = b;
         all = a ∙ sym (append-assoc (y .done) (f ∷ []) b);
         count = omega (arith, length-append (y .done) (f ∷ []));
-        puts = puts-as (puts-then (y .puts) (w .by (f .start) (rw j (one-start (f .start) l s g))))
+        text = appends-as (appends-then (y .text) (w .by (f .start) (rw j (one-start (f .start) l s g))))
             (ap lines (starts-then 1 (y .done) (f ∷ []) ∙ rw j′) ∙ lines-then (startsCode 1 (y .done)) (startIn (f .start) (k + 1) []));
       };
 }
@@ -114,5 +114,5 @@ pub starts-end : {table : List ℕ} {functions k at x : ℕ} {t t′ : List ℕ}
 starts-end h q = record {
   by = λ fs l e s. let y = q .by fs l e s in
       let z = no-fun (y .rest) (omega (arith, ap length (y .all), length-append (y .done) (y .rest))) in
-      puts-as (y .puts) (simp (y .all, z, append-nil));
+      appends-as (y .text) (simp (y .all, z, append-nil));
 }

@@ -12,34 +12,35 @@ use Rattle.language.specs.Symbols.{Symbol}
 use Rattle.language.specs.Whole.{stringsAmong}
 use Rattle.code.specs.Generate.{stringsCode}
 use Rattle.tree.specs.Read.{decoded}
-use Rattle.writing.specs.Text.{Puts, line, lines}
-use Rattle.writing.proofs.Laws.{puts-then, puts-as, puts-none, lines-then}
+use Rattle.writing.specs.Text.{Appends, line, lines}
+use Rattle.writing.proofs.Laws.{appends-then, appends-as, appends-none, lines-then}
 use Rattle.compiler.specs.Strings.{stringCount, oneIf, Ends, AllEnd, Escapes, WritesCharacters, WritesString, symbolCode, WritesSymbol}
 use Rattle.compiler.specs.Strings.{WritesStrings}
 use Rattle.compiler.proofs.StringsEnd.{first-ends, others-end}
 
-pub two-bytes : {a b at x r : ℕ} {t t₁ t₂ : List ℕ} → Puts (a ∷ []) at x t t₁ → Puts (b ∷ []) x r t₁ t₂ → Puts (a ∷ b ∷ []) at r t t₂
-two-bytes p q = puts-then p q
+pub two-bytes : {a b at x r : ℕ} {t t₁ t₂ : List ℕ} → Appends (a ∷ []) at x t t₁ → Appends (b ∷ []) x r t₁ t₂ → Appends (a ∷ b ∷ []) at r t t₂
+two-bytes p q = appends-then p q
 
 -- ---- a character
 
 -- four bytes, one after the other
-pub four-bytes : {a b c d at x y z r : ℕ} {t t₁ t₂ t₃ t₄ : List ℕ} → Puts (a ∷ []) at x t t₁ → Puts (b ∷ []) x y t₁ t₂ → Puts (c ∷ []) y z t₂ t₃
-    → Puts (d ∷ []) z r t₃ t₄ → Puts (a ∷ b ∷ c ∷ d ∷ []) at r t t₄
-four-bytes p q u v = puts-then p (puts-then q (puts-then u v))
+pub four-bytes : {a b c d at x y z r : ℕ} {t t₁ t₂ t₃ t₄ : List ℕ} → Appends (a ∷ []) at x t t₁ → Appends (b ∷ []) x y t₁ t₂
+    → Appends (c ∷ []) y z t₂ t₃ → Appends (d ∷ []) z r t₃ t₄ → Appends (a ∷ b ∷ c ∷ d ∷ []) at r t t₄
+four-bytes p q u v = appends-then p (appends-then q (appends-then u v))
 
 module _ {c at r : ℕ} {t t′ : List ℕ} where
-  pub plain-low : c < 32 → Puts (42 ∷ (48 + c / 100) ∷ (48 + c / 10 % 10) ∷ (48 + c % 10) ∷ []) at r t t′ → Puts (plainText c) at r t t′
+  pub plain-low : c < 32 → Appends (42 ∷ (48 + c / 100) ∷ (48 + c / 10 % 10) ∷ (48 + c % 10) ∷ []) at r t t′ → Appends (plainText c) at r t t′
   unfolding plainText
-  plain-low h p = puts-as p (rw (lt-leb 32 c h))
+  plain-low h p = appends-as p (rw (lt-leb 32 c h))
 
-  pub plain-high : 32 ≤ c → 126 < c → Puts (42 ∷ (48 + c / 100) ∷ (48 + c / 10 % 10) ∷ (48 + c % 10) ∷ []) at r t t′ → Puts (plainText c) at r t t′
+  pub plain-high : 32 ≤ c → 126 < c → Appends (42 ∷ (48 + c / 100) ∷ (48 + c / 10 % 10) ∷ (48 + c % 10) ∷ []) at r t t′
+      → Appends (plainText c) at r t t′
   unfolding plainText
-  plain-high l h p = puts-as p (rw (le-leb 32 c l, lt-leb c 126 h))
+  plain-high l h p = appends-as p (rw (le-leb 32 c l, lt-leb c 126 h))
 
-  pub plain-itself : 32 ≤ c → c ≤ 126 → Puts (c ∷ []) at r t t′ → Puts (plainText c) at r t t′
+  pub plain-itself : 32 ≤ c → c ≤ 126 → Appends (c ∷ []) at r t t′ → Appends (plainText c) at r t t′
   unfolding plainText
-  plain-itself l h p = puts-as p (rw (le-leb 32 c l, le-leb c 126 h))
+  plain-itself l h p = appends-as p (rw (le-leb 32 c l, le-leb c 126 h))
 
 pub no-escape : {c : ℕ} → Unlike c (34 ∷ 42 ∷ 13 ∷ 12 ∷ 8 ∷ 9 ∷ 10 ∷ []) → Escapes c 0
 unfolding characterText
@@ -53,12 +54,12 @@ no-escape {c} h = record {
 pub escapes : {c : ℕ} (k e : ℕ) → c ≡ k → (e ≡ 0 → ⊥) → characterText k ≡ 42 ∷ e ∷ [] → Escapes c e
 escapes k e q n h = record { plain = λ z. absurd (n z); starred = λ _. rw q h }
 
-pub put-plain : {c e at r : ℕ} {t t′ : List ℕ} → Escapes c e → e ≡ 0 → Puts (plainText c) at r t t′ → Puts (characterText c) at r t t′
-put-plain x z p = puts-as p (x .plain z)
+pub put-plain : {c e at r : ℕ} {t t′ : List ℕ} → Escapes c e → e ≡ 0 → Appends (plainText c) at r t t′ → Appends (characterText c) at r t t′
+put-plain x z p = appends-as p (x .plain z)
 
-pub put-starred : {c e at x r : ℕ} {t t₁ t₂ : List ℕ} → Escapes c e → (e ≡ 0 → ⊥) → Puts (42 ∷ []) at x t t₁ → Puts (e ∷ []) x r t₁ t₂
-    → Puts (characterText c) at r t t₂
-put-starred x n p q = puts-as (two-bytes p q) (x .starred n)
+pub put-starred : {c e at x r : ℕ} {t t₁ t₂ : List ℕ} → Escapes c e → (e ≡ 0 → ⊥) → Appends (42 ∷ []) at x t t₁ → Appends (e ∷ []) x r t₁ t₂
+    → Appends (characterText c) at r t t₂
+put-starred x n p q = appends-as (two-bytes p q) (x .starred n)
 
 -- ---- the characters up to the quote: `done` are written, `rest` is left
 
@@ -68,14 +69,14 @@ pub record CharactersPart (source : List ℕ) (i at x : ℕ) (t t′ : List ℕ)
   pub width : ℕ
   pub all : cs ≡ done ++ rest
   pub left : quoted 34 255 0 (drop i source) ≡ closed rest width
-  pub puts : Puts (charactersText done) at x t t′
+  pub text : Appends (charactersText done) at x t t′
 
 pub record Spelling (source : List ℕ) (from i at x : ℕ) (t t′ : List ℕ) : Type 0 where
   pub by : (cs : List ℕ) (width : ℕ) → quoted 34 255 0 (drop from source) ≡ closed cs width → CharactersPart source i at x t t′ cs
 
 pub spelling-begin : {source : List ℕ} {from at : ℕ} {t : List ℕ} → Spelling source from from at at t t
 unfolding charactersText
-spelling-begin = record { by = λ cs width e. record { done = []; rest = cs; width = width; all = refl; left = e; puts = puts-none } }
+spelling-begin = record { by = λ cs width e. record { done = []; rest = cs; width = width; all = refl; left = e; text = appends-none } }
 
 characters-then : (a b : List ℕ) → charactersText (a ++ b) ≡ charactersText a ++ charactersText b
 unfolding charactersText
@@ -83,7 +84,7 @@ characters-then [] b = refl
 characters-then (c ∷ a) b = simp (characters-then a b, append-assoc)
 
 pub spelling-next : {source : List ℕ} {from i at x r c w : ℕ} {t t₁ t₂ : List ℕ} → character 34 (drop i source) ≡ is c w
-    → Puts (characterText c) x r t₁ t₂ → Spelling source from i at x t t₁ → Spelling source from (i + w) at r t t₂
+    → Appends (characterText c) x r t₁ t₂ → Spelling source from i at x t t₁ → Spelling source from (i + w) at r t t₂
 unfolding charactersText
 spelling-next {source} {i = i} {c = c} {w} e p q = record {
   by = λ cs width z. let k = q .by cs width z in let n = closed-next 34 255 source i (k .left) e in record {
@@ -92,7 +93,7 @@ spelling-next {source} {i = i} {c = c} {w} e p q = record {
     width = n .width;
     all = simp (k .all, n .are, append-assoc);
     left = n .more;
-    puts = puts-as (puts-then (k .puts) p) (simp (characters-then (k .done) (c ∷ []), append-nil));
+    text = appends-as (appends-then (k .text) p) (simp (characters-then (k .done) (c ∷ []), append-nil));
   };
 }
 
@@ -101,7 +102,7 @@ module _ {source : List ℕ} {from i at x : ℕ} {t t′ : List ℕ} where
   pub spelling-end : character 34 (drop i source) ≡ closing → Spelling source from i at x t t′ → WritesCharacters source from at x t t′
   spelling-end e q = record {
     by = λ cs width z. let k = q .by cs width z in let g = closed-end 34 255 source i (k .left) e in
-        puts-as (k .puts) (ap charactersText (simp (k .all, g, append-nil)));
+        appends-as (k .text) (ap charactersText (simp (k .all, g, append-nil)));
   }
 
   pub spelling-ended : character 34 (drop i source) ≡ ended → Spelling source from i at x t t′ → WritesCharacters source from at x t t′
@@ -113,23 +114,24 @@ module _ {source : List ℕ} {from i at x : ℕ} {t t′ : List ℕ} where
 
 -- ---- a string's line, and a symbol's lines
 
-pub string-put : {source : List ℕ} {place at a b c d r : ℕ} {t t₁ t₂ t₃ t₄ t₅ : List ℕ} → Puts (67 ∷ []) at a t t₁ → Puts (34 ∷ []) a b t₁ t₂
-    → WritesCharacters source (place + 1) b c t₂ t₃ → Puts (34 ∷ []) c d t₃ t₄ → Puts (10 ∷ []) d r t₄ t₅ → WritesString source place at r t t₅
+pub string-put : {source : List ℕ} {place at a b c d r : ℕ} {t t₁ t₂ t₃ t₄ t₅ : List ℕ} → Appends (67 ∷ []) at a t t₁ → Appends (34 ∷ []) a b t₁ t₂
+    → WritesCharacters source (place + 1) b c t₂ t₃ → Appends (34 ∷ []) c d t₃ t₄ → Appends (10 ∷ []) d r t₄ t₅ → WritesString source place at r t t₅
 unfolding line render
 string-put {source} {place} p q w u v = record {
   by = λ e. let z : place + 1 ≡ suc place = omega arith in
-      puts-as (puts-then p (puts-then q (puts-then (w .by (e .characters) (e .width) (rw z (e .closes))) (puts-then u v)))) (simp append-assoc);
+      appends-as (appends-then p (appends-then q (appends-then (w .by (e .characters) (e .width) (rw z (e .closes))) (appends-then u v))))
+      (simp append-assoc);
 }
 
 pub symbol-none : {source : List ℕ} {kind place l at : ℕ} {t : List ℕ} → (kind ≡ STRING → ⊥) → WritesSymbol source kind place l at at t t
 unfolding symbolCode lines
-symbol-none {source} {kind} n = record { by = λ e. rw (ne-eqb kind STRING n) puts-none }
+symbol-none {source} {kind} n = record { by = λ e. rw (ne-eqb kind STRING n) appends-none }
 
-pub symbol-put : {source : List ℕ} {kind place l at x r : ℕ} {t t₁ t₂ : List ℕ} → kind ≡ STRING → Puts (line (I.label l)) at x t t₁
+pub symbol-put : {source : List ℕ} {kind place l at x r : ℕ} {t t₁ t₂ : List ℕ} → kind ≡ STRING → Appends (line (I.label l)) at x t t₁
     → WritesString source place x r t₁ t₂ → WritesSymbol source kind place l at r t t₂
 unfolding symbolCode lines
 symbol-put {source} {kind} q p w =
-    record { by = λ e. let z = e q in rw (eq-eqb kind STRING q, z .closes) (puts-as (puts-then p (w .by z)) (simp append-nil)) }
+    record { by = λ e. let z = e q in rw (eq-eqb kind STRING q, z .closes) (appends-as (appends-then p (w .by z)) (simp append-nil)) }
 
 -- ---- loops over the symbols: those from i on
 
@@ -193,7 +195,7 @@ pub record StringsPart (source s : List ℕ) (count first i n at x : ℕ) (t t�
   pub next : n ≡ first + length done
   pub ends : AllEnd source (symbolsFrom count s i)
   pub all : stringsAmong source (decoded count s) ≡ done ++ stringsAmong source (symbolsFrom count s i)
-  pub puts : Puts (lines (stringsCode first done)) at x t t′
+  pub text : Appends (lines (stringsCode first done)) at x t t′
 
 pub record Listing (source s : List ℕ) (count first i n at x : ℕ) (t t′ : List ℕ) : Type 0 where
   pub by : AllEnd source (decoded count s) → StringsPart source s count first i n at x t t′
@@ -201,7 +203,7 @@ pub record Listing (source s : List ℕ) (count first i n at x : ℕ) (t t′ : 
 pub listing-begin : {source s : List ℕ} {count first at : ℕ} {t : List ℕ} → Listing source s count first 0 first at at t t
 unfolding stringsCode lines
 listing-begin {source} {s} {count} = record {
-  by = λ e. record { done = []; next = omega arith; ends = rw (symbols-all count s) e; all = rw (symbols-all count s) refl; puts = puts-none };
+  by = λ e. record { done = []; next = omega arith; ends = rw (symbols-all count s) e; all = rw (symbols-all count s) refl; text = appends-none };
 }
 
 strings-then : (l : ℕ) (a b : List (List ℕ)) → stringsCode l (a ++ b) ≡ stringsCode l a ++ stringsCode (l + length a) b
@@ -240,7 +242,7 @@ listing-next {source} {s} {count} {first} {i} {n} {at} {x} {r} {k} {p} h ek ep e
         ends = others-end a;
         all = y .all ∙ ap (λ (z : List (List ℕ)). y .done ++ z) (ap (stringsAmong source) m ∙ of-symbol-first source _ (symbolsFrom count s (i + 1))
             ∙ rw (ek, ep) refl) ∙ sym (append-assoc (y .done) o (stringsAmong source (symbolsFrom count s (i + 1))));
-        puts = puts-as (puts-then (y .puts) (w .by f)) (cc (strings-then first (y .done) o, j, of-symbol-code source k p n));
+        text = appends-as (appends-then (y .text) (w .by f)) (cc (strings-then first (y .done) o, j, of-symbol-code source k p n));
       };
 }
 
@@ -248,5 +250,5 @@ pub listing-end : {source s : List ℕ} {count first i n at x : ℕ} {t t′ : L
     → WritesStrings source s count first at x t t′
 unfolding stringsAmong
 listing-end {source} {s} {count} {first} {i} h q = record {
-  by = λ e. let y = q .by e in puts-as (y .puts) (simp (y .all, symbols-none count s i h, append-nil));
+  by = λ e. let y = q .by e in appends-as (y .text) (simp (y .all, symbols-none count s i h, append-nil));
 }

@@ -14,7 +14,7 @@ use Rattle.compiler.proofs.Common.{keeps-all, keeps-then, keeps-shows, 
 use Rattle.compiler.proofs.Common.{same-refl, same-eq, same-swap, same-then, same-both, code-is, keeps-lies, IsTwo, sub, with-ways, Part}
 use Rattle.compiler.proofs.Common.{begins, item, ready-one, goes-on, ended}
 use Rattle.compiler.proofs.Vocabulary.{State, Here, Ways, Node, FineE, FineCs, FinePlain, inSwitch, leavableBy, exits, NodeAt, Code, Did}
-use Rattle.compiler.proofs.Vocabulary.{Emits, Fresh, Lies, ReadyE, GaveE, Counts, cmdSays, ReadyC, GaveCase, ReadyU, GaveU, casesFaults}
+use Rattle.compiler.proofs.Vocabulary.{Emits, Fresh, Holds, ReadyE, GaveE, Counts, cmdSays, ReadyC, GaveCase, ReadyU, GaveU, casesFaults}
 use Rattle.compiler.proofs.Vocabulary.{casesSays, entriesIn, ReadyCases, GaveCases, labelFaults, ReadyLabels, JudgesLabels, tableItems}
 use Rattle.compiler.proofs.Vocabulary.{WritesTable}
 use Rattle.compiler.proofs.Blocks.{commandList}
@@ -130,7 +130,7 @@ module _ {s : List ℕ} {end : ℕ} {here : Here} {st : State} (n : Node) (nd : 
 
   module _ (text : List ℕ) {s₁ t t₁ : List ℕ} {a : State} (g : GaveE text s s₁ middle here t t₁ st a) {k : ℕ}
       (c : Counts s₁ middle (n .inner) k) where
-    pub switch-lies : (y : ReadyU s end here st) → Lies s₁ middle (encodeCommands (switch-is y .list))
+    pub switch-lies : (y : ReadyU s end here st) → Holds s₁ middle (encodeCommands (switch-is y .list))
     switch-lies y = let u = switch-is y in rw (← (switch-middle y)) at (keeps-lies (g .by (switch-value y) .keeps) (omega arith) (u .lies-list))
 
     pub switch-ends : (y : ReadyU s end here st) → n .inner ≡ middle + length (encodeCommands (switch-is y .list))

@@ -9,9 +9,9 @@ use Rattle.compiler.proofs.Language.{ofFound, ofSimple, faultsOf, hasDe
 use Rattle.compiler.proofs.Language.{doubledCase, doubledLabel, doubled, FineCommand, FineCommands, encodeCommand, encodeCommands}
 use Rattle.language.specs.Names as N
 use Rattle.code.specs.Generate as G
-use Rattle.compiler.proofs.Vocabulary.{State, Node, FineC, FineCs, NodeAt, Emits, Lies, Verdict, labelFaults, ReadyLabels, WritesTable}
+use Rattle.compiler.proofs.Vocabulary.{State, Node, FineC, FineCs, NodeAt, Emits, Holds, Verdict, labelFaults, ReadyLabels, WritesTable}
 use Rattle.compiler.specs.declared.labels.Span.{Span}
-use Rattle.compiler.specs.Locals.{Says, fit, unfit, Judges}
+use Rattle.compiler.specs.Locals.{Says, says-good, says-refused, Judges}
 use Rattle.compiler.specs.Labels as L
 use Rattle.compiler.specs.Labels.{aCase, aDefault, Row, noMore, andMore, NextItem, LabelAt, CommandAt, Spans, Listed, marks, flat, caseItems}
 use Rattle.compiler.specs.Labels.{CountsLabel, CountsAll, HasDefault, defaultAmong, FindsDefault, Sound, noLabel, anyDefault, tableAmong, Still}
@@ -38,7 +38,7 @@ module _ {s : List ℕ} {end : ℕ} (n : Node) (nd : NodeAt s end n) where
         rw (nd .start) (rw b at (c .row (sym (nd .kind) ∙ q)));
   }
 
-command-at : {s : List ℕ} {lo end : ℕ} (c : Command) → FineC c → Lies s lo (encodeCommand c) → end ≡ lo + length (encodeCommand c)
+command-at : {s : List ℕ} {lo end : ℕ} (c : Command) → FineC c → Holds s lo (encodeCommand c) → end ≡ lo + length (encodeCommand c)
     → CommandAt s end (labelsBefore c)
 unfolding FineCommand
 command-at {s} {lo} {end} c f h e = record {
@@ -49,7 +49,7 @@ command-at {s} {lo} {end} c f h e = record {
       (labels-row (u .left) (subst FineC (u .same) f .0) (u .lies) (omega arith)));
 }
 
-pub commands-row : {s : List ℕ} {at end : ℕ} (cs : Commands) → FineCs cs → Lies s at (encodeCommands cs) → end ≡ at + length (encodeCommands cs)
+pub commands-row : {s : List ℕ} {at end : ℕ} (cs : Commands) → FineCs cs → Holds s at (encodeCommands cs) → end ≡ at + length (encodeCommands cs)
     → Row (CommandAt s) s end at (marks cs)
 unfolding encodeCommands FineCommands marks
 commands-row {at = at} T.noCommands f h e = noMore {at = at} (omega arith)
@@ -212,8 +212,8 @@ first-good : {text : List ℕ} {sc : Scope} {p : ℕ} {c : Constant} {ls : List 
 first-good (L.goodCase v w so) = record { value = v; is = w }
 
 says-is : {j : Verdict} {x : Judged} {v : ℕ} → Says j x → x ≡ good v → x ≡ good (j .word)
-says-is (fit q) e = refl
-says-is (unfit a b w) e = contradiction cc
+says-is (says-good q) e = refl
+says-is (says-refused a b w) e = contradiction cc
 
 module _ (text : List ℕ) {s : List ℕ} {end top : ℕ} (n : Node) (nd : NodeAt s end n) where
   pub pair-not : {k : ℕ} {t : List ℕ} {st : State} → (n .kind ≡ 28 → ⊥) → WritesPair text s end top k t t st st

@@ -4,29 +4,29 @@ use Rattle.laws.proofs.Basics.{length-append, List·getD-append, getD-append-ad
 use Rattle.language.specs.Tree as T
 use Rattle.language.specs.Tree.{Name, Expression, Suffixes, Operations, Command, placeOf, endsInCall}
 use Rattle.tree.specs.Encoding.{closed, encode, encodeName, encodeSuffixes, encodeOperations, encodeCommand, suffixedKind}
-use Rattle.compiler.proofs.Vocabulary.{Keeps, State, Here, Node, NodeAt, Lies, ReadyE}
+use Rattle.compiler.proofs.Vocabulary.{Keeps, State, Here, Node, NodeAt, Holds, ReadyE}
 
-pub first : {s : List ℕ} {lo : ℕ} (x y : List ℕ) → Lies s lo (x ++ y) → Lies s lo x
+pub first : {s : List ℕ} {lo : ℕ} (x y : List ℕ) → Holds s lo (x ++ y) → Holds s lo x
 first x y h = record { at = λ i l. h .at i (omega (arith, length-append x y)) ∙ List·getD-append x y 0 i l }
 
-pub second : {s : List ℕ} {lo : ℕ} (x y : List ℕ) (m : ℕ) → Lies s lo (x ++ y) → m ≡ lo + length x → Lies s m y
+pub second : {s : List ℕ} {lo : ℕ} (x y : List ℕ) (m : ℕ) → Holds s lo (x ++ y) → m ≡ lo + length x → Holds s m y
 second {s} {lo} x y m h e = record {
   at = λ i l. let q : m + i ≡ lo + (length x + i) = omega arith in
       ap (λ (k : ℕ). getD s k 0) q ∙ h .at (length x + i) (omega (arith, length-append x y)) ∙ getD-append-add x y i 0;
 }
 
-pub keeps-lies : {base top lo : ℕ} {s s′ x : List ℕ} → Keeps base top s s′ → base ≤ lo → Lies s lo x → Lies s′ lo x
+pub keeps-lies : {base top lo : ℕ} {s s′ x : List ℕ} → Keeps base top s s′ → base ≤ lo → Holds s lo x → Holds s′ lo x
 keeps-lies {lo = lo} k b h = record { at = λ i l. k .above (lo + i) (omega arith) ∙ h .at i l }
 
 -- a record and what stands before it
-module _ {s : List ℕ} {lo end : ℕ} (w : List ℕ) (v p k : ℕ) (h : Lies s lo (closed w v p k)) (e : end ≡ lo + length (closed w v p k)) where
+module _ {s : List ℕ} {lo end : ℕ} (w : List ℕ) (v p k : ℕ) (h : Holds s lo (closed w v p k)) (e : end ≡ lo + length (closed w v p k)) where
   pub ends : end ≡ lo + length w + 4
   ends = omega (arith, length-append w (length w ∷ v ∷ p ∷ k ∷ []))
 
-  pub kid : Lies s lo w
+  pub kid : Holds s lo w
   kid = first w (length w ∷ v ∷ p ∷ k ∷ []) h
 
-  four : Lies s (end - 4) (length w ∷ v ∷ p ∷ k ∷ [])
+  four : Holds s (end - 4) (length w ∷ v ∷ p ∷ k ∷ [])
   four = second w (length w ∷ v ∷ p ∷ k ∷ []) (end - 4) h (omega (arith, ends))
 
   field : (i j : ℕ) → j ≡ end - 4 + i → i < 4 → getD s j 0 ≡ getD (length w ∷ v ∷ p ∷ k ∷ []) i 0
@@ -49,16 +49,17 @@ pub data Case (s : List ℕ) (lo end : ℕ) : ℕ → Expression → Type 0 wher
   aNumber : {p v : ℕ} → getD s (end - 3) 0 ≡ v → Case s lo end 60 (T.number p v)
   aString : {p v : ℕ} → getD s (end - 3) 0 ≡ v → Case s lo end 61 (T.string p v)
   aName : {n : Name} → getD s (end - 3) 0 ≡ n .width → getD s (end - 2) 0 ≡ n .place → end ≡ lo + 4 → Case s lo end 59 (T.name n)
-  aBracket : {p : ℕ} {e : Expression} → Lies s lo (encode e) → end ≡ lo + length (encode e) + 4 → Case s lo end 51 (T.bracketed p e)
-  aValof : {p : ℕ} {c : Command} → Lies s lo (encodeCommand c) → end ≡ lo + length (encodeCommand c) + 4 → Case s lo end 7 (T.valof p c)
-  aMonadic : {p o : ℕ} {e : Expression} → getD s (end - 3) 0 ≡ o → Lies s lo (encode e) → end ≡ lo + length (encode e) + 4
+  aBracket : {p : ℕ} {e : Expression} → Holds s lo (encode e) → end ≡ lo + length (encode e) + 4 → Case s lo end 51 (T.bracketed p e)
+  aValof : {p : ℕ} {c : Command} → Holds s lo (encodeCommand c) → end ≡ lo + length (encodeCommand c) + 4 → Case s lo end 7 (T.valof p c)
+  aMonadic : {p o : ℕ} {e : Expression} → getD s (end - 3) 0 ≡ o → Holds s lo (encode e) → end ≡ lo + length (encode e) + 4
       → Case s lo end 128 (T.monadic p o e)
-  aSuffixed : {e : Expression} {ss : Suffixes} → Lies s lo (encode e ++ encodeSuffixes ss)
+  aSuffixed : {e : Expression} {ss : Suffixes} → Holds s lo (encode e ++ encodeSuffixes ss)
       → getD s (end - 4) 0 ≡ length (encode e ++ encodeSuffixes ss) → getD s (end - 3) 0 ≡ length (encode e)
       → end ≡ lo + length (encode e ++ encodeSuffixes ss) + 4 → Case s lo end 129 (T.suffixed e ss)
-  aCalled : {e : Expression} {ss : Suffixes} → Lies s lo (encode e ++ encodeSuffixes ss) → getD s (end - 4) 0 ≡ length (encode e ++ encodeSuffixes ss)
-      → getD s (end - 3) 0 ≡ length (encode e) → end ≡ lo + length (encode e ++ encodeSuffixes ss) + 4 → Case s lo end 130 (T.suffixed e ss)
-  aDyadic : {e : Expression} {os : Operations} → Lies s lo (encode e ++ encodeOperations os)
+  aCalled : {e : Expression} {ss : Suffixes} → Holds s lo (encode e ++ encodeSuffixes ss)
+      → getD s (end - 4) 0 ≡ length (encode e ++ encodeSuffixes ss) → getD s (end - 3) 0 ≡ length (encode e)
+      → end ≡ lo + length (encode e ++ encodeSuffixes ss) + 4 → Case s lo end 130 (T.suffixed e ss)
+  aDyadic : {e : Expression} {os : Operations} → Holds s lo (encode e ++ encodeOperations os)
       → getD s (end - 4) 0 ≡ length (encode e ++ encodeOperations os) → getD s (end - 3) 0 ≡ length (encode e)
       → end ≡ lo + length (encode e ++ encodeOperations os) + 4 → Case s lo end 131 (T.dyadic e os)
 
@@ -66,14 +67,14 @@ module _ {s : List ℕ} {lo end : ℕ} where
   so : {k : ℕ} {e : Expression} → getD s (end - 1) 0 ≡ k → Case s lo end k e → Case s lo end (getD s (end - 1) 0) e
   so q c = rw q c
 
-  suffixedCase : {e : Expression} {ss : Suffixes} (b : Bool) → Lies s lo (encode e ++ encodeSuffixes ss)
+  suffixedCase : {e : Expression} {ss : Suffixes} (b : Bool) → Holds s lo (encode e ++ encodeSuffixes ss)
       → getD s (end - 4) 0 ≡ length (encode e ++ encodeSuffixes ss) → getD s (end - 3) 0 ≡ length (encode e)
       → end ≡ lo + length (encode e ++ encodeSuffixes ss) + 4 → Case s lo end (suffixedKind b) (T.suffixed e ss)
   unfolding suffixedKind
   suffixedCase true a b c d = aCalled a b c d
   suffixedCase false a b c d = aSuffixed a b c d
 
-  pub view : (e : Expression) → Lies s lo (encode e) → end ≡ lo + length (encode e) → Case s lo end (getD s (end - 1) 0) e
+  pub view : (e : Expression) → Holds s lo (encode e) → end ≡ lo + length (encode e) → Case s lo end (getD s (end - 1) 0) e
   unfolding encode encodeName
   view (T.number p v) h q = so (kind-is [] v p 60 h q) (aNumber (value-is [] v p 60 h q))
   view (T.string p v) h q = so (kind-is [] v p 61 h q) (aString (value-is [] v p 61 h q))
@@ -125,7 +126,7 @@ pub record IsOne {A : Type 0} (enc : A → List ℕ) (Is : ℕ → ℕ → A →
   pub value : ℕ
   pub part : A
   pub same : e ≡ Is place value part
-  pub lies : Lies s lo (enc part)
+  pub lies : Holds s lo (enc part)
   pub ends : end ≡ lo + length (enc part) + 4
 
 pub is-bracket : {s : List ℕ} {lo end : ℕ} {e : Expression} → Case s lo end 51 e → IsOne encode (λ p v x. T.bracketed p x) s lo end e
@@ -139,14 +140,14 @@ pub record IsTwo {A L T : Type 0} (one : A → List ℕ) (enc : L → List ℕ) 
   pub left : A
   pub list : L
   pub same : e ≡ Is left list
-  pub lies : Lies s lo (one left)
-  pub lies-list : Lies s (lo + length (one left)) (enc list)
+  pub lies : Holds s lo (one left)
+  pub lies-list : Holds s (lo + length (one left)) (enc list)
   pub value-of : getD s (end - 3) 0 ≡ length (one left)
   pub size-of : getD s (end - 4) 0 ≡ length (one left) + length (enc list)
   pub ends : end ≡ lo + length (one left) + length (enc list) + 4
 
 pub is-two : {A L T : Type 0} (one : A → List ℕ) (enc : L → List ℕ) (Is : A → L → T) {s : List ℕ} {lo end : ℕ} (x : A) (xs : L)
-    → Lies s lo (one x ++ enc xs) → getD s (end - 4) 0 ≡ length (one x ++ enc xs) → getD s (end - 3) 0 ≡ length (one x)
+    → Holds s lo (one x ++ enc xs) → getD s (end - 4) 0 ≡ length (one x ++ enc xs) → getD s (end - 3) 0 ≡ length (one x)
     → end ≡ lo + length (one x ++ enc xs) + 4 → IsTwo one enc Is s lo end (Is x xs)
 is-two one enc Is {lo = lo} x xs h z v q = record {
   left = x;

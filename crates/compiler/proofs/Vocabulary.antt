@@ -6,7 +6,7 @@ pub use Rattle.compiler.specs.declared.steps.Ways.{Ways}
 pub use Rattle.compiler.specs.Walked.{AllFit, Code, Did, Emits, Faulted, Fresh, LeavesTo, Means, NodeAt, Reached, andFit, exits, exprSays}
 pub use Rattle.compiler.specs.Walked.{exprsSays, inLoop, inSwitch, inValof, inside, key, leavable, leavableBy, marked, noFit, placed, raised}
 unfoldable pub use Rattle.compiler.specs.Walked.{least}
-pub use Rattle.compiler.specs.Walks.{Counts, GaveArgs, GaveChain, GaveE, GaveIndexed, GavePassed, GaveSuffixes, Lies, Ready, ReadyArgs}
+pub use Rattle.compiler.specs.Walks.{Counts, GaveArgs, GaveChain, GaveE, GaveIndexed, GavePassed, GaveSuffixes, Holds, Ready, ReadyArgs}
 pub use Rattle.compiler.specs.Walks.{ReadyChain, ReadyE, ReadySuffixes, Result, chainSays, codeA, codeE, encodeApplied, faultsE}
 unfoldable pub use Rattle.compiler.specs.Walks.{chainCode, chainHeights, chainLabels}
 pub use Rattle.compiler.specs.Scope.{Keeps, Looked, Pushed, PushedName, Shows, Told, Worded, nameAt, named, nothing}

@@ -29,7 +29,7 @@ use Rattle.compiler.specs.Walked.{raised, leavable, leavableBy, exits, D
 use Rattle.compiler.specs.Repeats.{conditions, formsSays}
 use Rattle.language.specs.Fine.{FineNames}
 use Rattle.compiler.specs.Fine.{FineE, FineC, FineCs, FinePlain, FineRs}
-use Rattle.compiler.specs.Walks.{Lies, Ready, Result, Gave}
+use Rattle.compiler.specs.Walks.{Holds, Ready, Result, Gave}
 
 -- ---- what is written
 
@@ -248,7 +248,7 @@ pub record ReadyNames (s : List ℕ) (from end top height : ℕ) : Type 0 where
   pub base : ℕ
   pub scope : Scope
   pub names : List Name
-  pub lies : Lies s from (encodeNames names)
+  pub lies : Holds s from (encodeNames names)
   pub ends : end ≡ from + length (encodeNames names)
   pub above : base ≤ from
   pub long : base ≤ length s

@@ -16,7 +16,7 @@ use Rattle.language.specs.Whole.{refusalIn, stringsAmong}
 use Rattle.symbols.specs.Read.{entries, outcome}
 use Rattle.tree.specs.Encoding.{encodeProgram}
 use Rattle.tree.specs.Read.{padded}
-use Rattle.writing.specs.Text.{Puts, lines}
+use Rattle.writing.specs.Text.{Appends, lines}
 use Rattle.language.specs.Program.{Refused, accepted, refused}
 use Rattle.code.specs.Faithful.{Faithful}
 use Rattle.code.specs.Placed.{Proper}
@@ -102,14 +102,14 @@ pub record StaysClean (source s s′ : List ℕ) (count : ℕ) : Type 0 where
 pub record AllStrings (source s s′ : List ℕ) (count names first at at′ : ℕ) (t t′ : List ℕ) : Type 0 where
   pub clean : StaysClean source s s′ count
   pub by : (symbols : List Symbol) → symbolsOf source ≡ good symbols → count ≡ length symbols → names ≡ length (stringsAmong source symbols)
-      → Puts (lines (stringsCode first (stringsAmong source symbols))) at at′ t t′
+      → Appends (lines (stringsCode first (stringsAmong source symbols))) at at′ t t′
 
 -- what follows the functions: strings, globals in which functions start, and `Z`
 pub record Behind (source s s′ : List ℕ) (count names functions : ℕ) (table : List ℕ) (at at′ : ℕ) (t t′ : List ℕ) : Type 0 where
   pub clean : StaysClean source s s′ count
   pub by : (symbols : List Symbol) (fs : List Fun) → symbolsOf source ≡ good symbols → count ≡ length symbols
       → names ≡ length (stringsAmong source symbols) → length table ≡ 400 → functions ≡ length fs → Starting table (startsOf fs)
-      → Puts (lines (stringsCode (suc functions) (stringsAmong source symbols) ++ startsCode 1 fs) ++ (90 ∷ 10 ∷ [])) at at′ t t′
+      → Appends (lines (stringsCode (suc functions) (stringsAmong source symbols) ++ startsCode 1 fs) ++ (90 ∷ 10 ∷ [])) at at′ t t′
 
 -- a key above all refusals'
 abbrev pub NONE : ℕ

@@ -20,7 +20,7 @@ use Rattle.tree.specs.Encoding.{closed, encodeName, encodeNames, encodeBody, bo
 use Rattle.compiler.specs.Scope.{Shows, Keeps, found, nameAt}
 use Rattle.language.specs.Fine.{FineBody, FineFunction, FineFunctions, FineProgram}
 use Rattle.compiler.specs.Fine.{STRINGS}
-use Rattle.compiler.specs.Walks.{Lies, Ready, Gave, Result}
+use Rattle.compiler.specs.Walks.{Holds, Ready, Gave, Result}
 use Rattle.compiler.specs.Walked.{Did, Code, least, AllFit}
 use Rattle.compiler.specs.Commands.{nothing}
 use Rattle.compiler.specs.declared.steps.State.{State}
@@ -101,7 +101,7 @@ pub record ReadyGroup (s table : List ℕ) (from end top k : ℕ) : Type 0 where
   pub scope : Scope
   pub taken : List ℕ
   pub functions : List Function
-  pub lies : Lies s from (encodeFunctions functions)
+  pub lies : Holds s from (encodeFunctions functions)
   pub ends : end ≡ from + length (encodeFunctions functions)
   pub above : base ≤ from
   pub long : base ≤ length s
@@ -175,7 +175,7 @@ pub record ReadyFs (s : List ℕ) (from end : ℕ) (x : Here) (d : Done) : Type 
   pub base : ℕ
   pub scope : Scope
   pub functions : List Function
-  pub lies : Lies s from (encodeFunctions functions)
+  pub lies : Holds s from (encodeFunctions functions)
   pub ends : end ≡ from + length (encodeFunctions functions)
   pub above : base ≤ from
   pub long : base ≤ length s
@@ -217,7 +217,7 @@ functionCount (T.manifests is ∷ p) = functionCount p
 functionCount (T.functions fs ∷ p) = length fs + functionCount p
 
 pub record CountsFunctions (s : List ℕ) (from end n : ℕ) : Type 0 where
-  pub by : (p : Program) → Lies s from (encodeProgram p) → end ≡ from + length (encodeProgram p) → n ≡ functionCount p
+  pub by : (p : Program) → Holds s from (encodeProgram p) → end ≡ from + length (encodeProgram p) → n ≡ functionCount p
 
 pub record CountsGroup (s : List ℕ) (from end n : ℕ) : Type 0 where
-  pub by : (fs : List Function) → Lies s from (encodeFunctions fs) → end ≡ from + length (encodeFunctions fs) → n ≡ length fs
+  pub by : (fs : List Function) → Holds s from (encodeFunctions fs) → end ≡ from + length (encodeFunctions fs) → n ≡ length fs

@@ -11,7 +11,7 @@ use Rattle.language.specs.Names.{Scope}
 use Rattle.language.specs.Constants.{Fault, Judged, judge, forGlobal}
 use Rattle.tree.specs.Encoding.{encodeConstant, encodeItems}
 use Rattle.compiler.specs.Scope.{Shows, Keeps}
-use Rattle.compiler.specs.Walks.{Lies}
+use Rattle.compiler.specs.Walks.{Holds}
 use Rattle.compiler.specs.Walked.{Did}
 use Rattle.compiler.specs.Commands.{nothing}
 use Rattle.compiler.specs.declared.steps.State.{State}
@@ -40,7 +40,7 @@ FineIs is = FineItems STRINGS is
 
 -- an item's constant
 pub record JudgesItem (g : Bool) (text s : List ℕ) (end top : ℕ) (r : Verdict) : Type 0 where
-  pub by : (sc : Scope) (lo : ℕ) (c : T.Constant) → Shows s top sc → FineConstant c → Lies s lo (encodeConstant c)
+  pub by : (sc : Scope) (lo : ℕ) (c : T.Constant) → Shows s top sc → FineConstant c → Holds s lo (encodeConstant c)
       → end ≡ lo + length (encodeConstant c) → Says r (judged g text sc c)
   pub fits : (r .place < 2 ^ 32) × (r .number < 32)
   pub low : r .word < 2 ^ 30
@@ -49,7 +49,7 @@ pub record ReadyItems (s : List ℕ) (from end top : ℕ) : Type 0 where
   pub base : ℕ
   pub scope : Scope
   pub items : List Item
-  pub lies : Lies s from (encodeItems items)
+  pub lies : Holds s from (encodeItems items)
   pub ends : end ≡ from + length (encodeItems items)
   pub above : base ≤ from
   pub long : base ≤ length s

@@ -20,7 +20,7 @@ use Rattle.compiler.specs.Scope.{Shows}
 use Rattle.compiler.specs.declared.steps.State.{State}
 use Rattle.compiler.specs.declared.labels.Span.{Span}
 use Rattle.compiler.specs.Walked.{Did, Emits, Faulted}
-use Rattle.compiler.specs.Walks.{Lies}
+use Rattle.compiler.specs.Walks.{Holds}
 use Rattle.compiler.specs.Commands.{nothing}
 
 -- ---- items
@@ -40,7 +40,7 @@ pub record NextItem (s : List ℕ) (at end r : ℕ) : Type 0 where
 
 -- a label whose record ends there
 pub data LabelAt (s : List ℕ) (end : ℕ) : Label → Type 0 where
-  aCase : {place lo : ℕ} {c : Constant} → getD s (end - 1) 0 ≡ K.CASE → getD s (end - 2) 0 ≡ place → Lies s lo (encodeConstant c)
+  aCase : {place lo : ℕ} {c : Constant} → getD s (end - 1) 0 ≡ K.CASE → getD s (end - 2) 0 ≡ place → Holds s lo (encodeConstant c)
       → end - 4 ≡ lo + length (encodeConstant c) → FineConstant c
       → LabelAt s end (T.case place c)
   aDefault : {place : ℕ} → getD s (end - 1) 0 ≡ K.DEFAULT → getD s (end - 2) 0 ≡ place → LabelAt s end (T.default place)

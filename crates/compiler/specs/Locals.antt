@@ -25,15 +25,15 @@ use Rattle.compiler.specs.declared.steps.Verdict.{Verdict}
 use Rattle.compiler.specs.Walked.{leavable, Did, Code}
 use Rattle.compiler.specs.Fine.{FineEs, FineLs}
 use Rattle.language.specs.Fine.{FineName, FineNames, FineConstant}
-use Rattle.compiler.specs.Walks.{Lies, Ready}
+use Rattle.compiler.specs.Walks.{Holds, Ready}
 use Rattle.compiler.specs.Commands.{nothing}
 
 -- ---- constants
 
 -- what a verdict says
 pub data Says (r : Verdict) : Judged → Type 0 where
-  fit : r .number ≡ 0 → Says r (good (r .word))
-  unfit : {number : ℕ} → r .number ≡ number → (number ≡ 0 → ⊥) → r .word ≡ 0 → Says r (refused (fault (r .place) number))
+  says-good : r .number ≡ 0 → Says r (good (r .word))
+  says-refused : {number : ℕ} → r .number ≡ number → (number ≡ 0 → ⊥) → r .word ≡ 0 → Says r (refused (fault (r .place) number))
 
 pub record NamedConstant (m : ℕ) (minus : Bool) (name place : ℕ) (r : Verdict) : Type 0 where
   pub by : (c : Constant) (n : Name) (f : N.Found) → m ≡ found f → c .minus ≡ minus → c .place ≡ place → n .place ≡ name → Says r (ofFound c n f)
@@ -42,7 +42,7 @@ pub record NamedConstant (m : ℕ) (minus : Bool) (name place : ℕ) (r : Verdic
 
 -- whatever constant ends there
 pub record Judges (text s : List ℕ) (end top : ℕ) (r : Verdict) : Type 0 where
-  pub by : (sc : Scope) (lo : ℕ) (c : Constant) → Shows s top sc → FineConstant c → Lies s lo (encodeConstant c)
+  pub by : (sc : Scope) (lo : ℕ) (c : Constant) → Shows s top sc → FineConstant c → Holds s lo (encodeConstant c)
       → end ≡ lo + length (encodeConstant c) → Says r (judge text sc c)
   pub fits : (r .place < 2 ^ 32) × (r .number < 32)
   -- it is a meaning's word
@@ -50,7 +50,7 @@ pub record Judges (text s : List ℕ) (end top : ℕ) (r : Verdict) : Type 0 whe
 
 -- 11 where it is greater than that
 pub record JudgesMost (most : ℕ) (text s : List ℕ) (end top : ℕ) (r : Verdict) : Type 0 where
-  pub by : (sc : Scope) (lo : ℕ) (c : Constant) → Shows s top sc → FineConstant c → Lies s lo (encodeConstant c)
+  pub by : (sc : Scope) (lo : ℕ) (c : Constant) → Shows s top sc → FineConstant c → Holds s lo (encodeConstant c)
       → end ≡ lo + length (encodeConstant c)
       → Says r (within c (λ v. leb v most) (judge text sc c))
   pub fits : (r .place < 2 ^ 32) × (r .number < 32)

@@ -15,7 +15,7 @@ use Rattle.tree.specs.Encoding.{encodeItems, encodeFunctions, encodeProgram}
 use Rattle.compiler.specs.Scope.{Shows, Keeps}
 use Rattle.compiler.specs.Fine.{STRINGS}
 use Rattle.compiler.specs.Items.{Items}
-use Rattle.compiler.specs.Walks.{Lies}
+use Rattle.compiler.specs.Walks.{Holds}
 use Rattle.compiler.specs.Walked.{Did, least, AllFit}
 use Rattle.language.specs.Program.{Walk, begin, afterDeclaration, declarationFaults, declarationFunctions, faultsFrom, functionsFrom, heightFaults}
 use Rattle.language.specs.Program.{Named}
@@ -69,7 +69,7 @@ pub record ReadyDeclaration (s table : List ℕ) (from end tag left strings : �
   pub walk : Walk
   pub part : Declaration
   pub stands : Stands base s table walk l
-  pub lies : Lies s from (encodeDeclared part)
+  pub lies : Holds s from (encodeDeclared part)
   pub ends : end ≡ from + length (encodeDeclared part)
   pub word : tag ≡ declaredWord part
   pub above : base ≤ from
@@ -101,7 +101,7 @@ pub record GaveDeclaration (text s s′ table table′ : List ℕ) (from end tag
 -- the tree stands from `base` on, up to `end`; nothing is in scope yet; the first inner label is d's
 pub record ReadyProgram (s table : List ℕ) (base end left strings : ℕ) (d : Done) : Type 0 where
   pub program : Program
-  pub lies : Lies s base (encodeProgram program)
+  pub lies : Holds s base (encodeProgram program)
   pub ends : end ≡ base + length (encodeProgram program)
   pub long : base ≤ length s
   pub small : end < 2 ^ 32

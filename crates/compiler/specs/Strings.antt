@@ -14,7 +14,7 @@ use Rattle.language.specs.Resolved.{Fun, Start, inGlobal}
 use Rattle.language.specs.Whole.{stringsAmong}
 use Rattle.code.specs.Generate.{stringsCode, startIn, startsCode}
 use Rattle.tree.specs.Read.{decoded}
-use Rattle.writing.specs.Text.{Puts, line, lines}
+use Rattle.writing.specs.Text.{Appends, line, lines}
 use Rattle.compiler.specs.Groups.{Starting}
 use Rattle.compiler.specs.Programs.{startsOf}
 
@@ -44,10 +44,10 @@ pub record Escapes (c e : ℕ) : Type 0 where
 
 -- the characters from a place on
 pub record WritesCharacters (source : List ℕ) (from at at′ : ℕ) (t t′ : List ℕ) : Type 0 where
-  pub by : (cs : List ℕ) (width : ℕ) → quoted 34 255 0 (drop from source) ≡ closed cs width → Puts (charactersText cs) at at′ t t′
+  pub by : (cs : List ℕ) (width : ℕ) → quoted 34 255 0 (drop from source) ≡ closed cs width → Appends (charactersText cs) at at′ t t′
 
 pub record WritesString (source : List ℕ) (place at at′ : ℕ) (t t′ : List ℕ) : Type 0 where
-  pub by : (e : Ends source place) → Puts (line (I.string (e .characters))) at at′ t t′
+  pub by : (e : Ends source place) → Appends (line (I.string (e .characters))) at at′ t t′
 
 -- the items of one symbol
 unfoldable pub symbolCode : (source : List ℕ) (kind place label : ℕ) → List I.Item
@@ -55,11 +55,11 @@ symbolCode source kind place label =
     cond (eqb kind STRING) (I.label label ∷ I.string (charactersOf (quoted 34 255 0 (drop (suc place) source))) ∷ []) []
 
 pub record WritesSymbol (source : List ℕ) (kind place label at at′ : ℕ) (t t′ : List ℕ) : Type 0 where
-  pub by : (kind ≡ STRING → Ends source place) → Puts (lines (symbolCode source kind place label)) at at′ t t′
+  pub by : (kind ≡ STRING → Ends source place) → Appends (lines (symbolCode source kind place label)) at at′ t t′
 
 -- the strings of so many symbols in scratch, labelled from `label` on
 pub record WritesStrings (source s : List ℕ) (count label at at′ : ℕ) (t t′ : List ℕ) : Type 0 where
-  pub by : AllEnd source (decoded count s) → Puts (lines (stringsCode label (stringsAmong source (decoded count s)))) at at′ t t′
+  pub by : AllEnd source (decoded count s) → Appends (lines (stringsCode label (stringsAmong source (decoded count s)))) at at′ t t′
 
 -- the global whose entry is a label
 pub record FindsGlobal (table : List ℕ) (label n : ℕ) : Type 0 where
@@ -72,8 +72,8 @@ pub record StartsAt (table : List ℕ) (label : ℕ) (start : Start) : Type 0 wh
   pub has : (n : ℕ) → start ≡ inGlobal n → (n < 400) × (getD table n 0 ≡ label)
 
 pub record WritesStart (table : List ℕ) (label at at′ : ℕ) (t t′ : List ℕ) : Type 0 where
-  pub by : (start : Start) → StartsAt table label start → Puts (lines (startIn start label [])) at at′ t t′
+  pub by : (start : Start) → StartsAt table label start → Appends (lines (startIn start label [])) at at′ t t′
 
 -- the globals in which functions start, in the functions' order
 pub record WritesStarts (table : List ℕ) (functions at at′ : ℕ) (t t′ : List ℕ) : Type 0 where
-  pub by : (fs : List Fun) → length table ≡ 400 → functions ≡ length fs → Starting table (startsOf fs) → Puts (lines (startsCode 1 fs)) at at′ t t′
+  pub by : (fs : List Fun) → length table ≡ 400 → functions ≡ length fs → Starting table (startsOf fs) → Appends (lines (startsCode 1 fs)) at at′ t t′

@@ -20,7 +20,7 @@ use Rattle.compiler.specs.declared.steps.Verdict.{Verdict}
 use Rattle.language.specs.Fine.{FineLabels, FineBy}
 use Rattle.compiler.specs.Fine.{FineCs}
 use Rattle.compiler.specs.Walked.{Did, Emits}
-use Rattle.compiler.specs.Walks.{Lies}
+use Rattle.compiler.specs.Walks.{Holds}
 use Rattle.compiler.specs.Commands.{nothing}
 use Rattle.compiler.specs.Locals.{Says}
 
@@ -34,7 +34,7 @@ pub record ReadyLabels (s : List ℕ) (from end top : ℕ) : Type 0 where
   pub base : ℕ
   pub scope : Scope
   pub commands : Commands
-  pub lies : Lies s from (encodeCommands commands)
+  pub lies : Holds s from (encodeCommands commands)
   pub ends : end ≡ from + length (encodeCommands commands)
   pub above : base ≤ from
   pub small : end < 2 ^ 32
@@ -63,7 +63,7 @@ pub record ReadyMisplaced (s : List ℕ) (from end top : ℕ) : Type 0 where
   pub base : ℕ
   pub scope : Scope
   pub labels : List Label
-  pub lies : Lies s from (encodeLabels labels)
+  pub lies : Holds s from (encodeLabels labels)
   pub ends : end ≡ from + length (encodeLabels labels)
   pub above : base ≤ from
   pub small : end < 2 ^ 32
@@ -80,6 +80,6 @@ byJudged text s none = good 1
 byJudged text s (some c) = forBy text s c
 
 pub record JudgesBy (text s : List ℕ) (from end top : ℕ) (r : Verdict) : Type 0 where
-  pub by : (sc : Scope) (k : Option Constant) → Shows s top sc → FineBy k → Lies s from (encodeBy k) → end ≡ from + length (encodeBy k)
+  pub by : (sc : Scope) (k : Option Constant) → Shows s top sc → FineBy k → Holds s from (encodeBy k) → end ≡ from + length (encodeBy k)
       → Says r (byJudged text sc k)
   pub fits : (r .place < 2 ^ 32) × (r .number < 32)

@@ -13,7 +13,7 @@ use Rattle.language.specs.Resolve.{ofMeaning}
 use Rattle.language.specs.Heights.{ofExpr, ofExprs, greatest}
 use Rattle.code.specs.Generate.{exprCode, exprsCode, exprLabels, exprsLabels, Exits, JL}
 use Rattle.language.specs.Faults.{Leavable, unless}
-use Rattle.writing.specs.Text.{Puts, lines}
+use Rattle.writing.specs.Text.{Appends, lines}
 use Rattle.compiler.specs.Scope.{found}
 use Rattle.compiler.specs.declared.steps.State.{State}
 use Rattle.compiler.specs.declared.steps.Here.{Here}
@@ -85,7 +85,7 @@ pub record Code : Type 0 where
   pub labels : ℕ
 
 pub record Wrote (c : Code) (t t′ : List ℕ) (st st′ : State) : Type 0 where
-  pub text : Puts (lines (c .items)) (st .at) (st′ .at) t t′
+  pub text : Appends (lines (c .items)) (st .at) (st′ .at) t t′
   pub high : st′ .high ≡ greatest (st .high) (c .heights)
   pub label : st′ .label ≡ st .label + c .labels
 
@@ -100,7 +100,7 @@ pub record Did (fs : List Fault) (code : ℕ → Code) (most : ℕ) (t t′ : Li
 
 -- items are written and heights reached, with no faults and no labels
 pub record Emits (items : List I.Item) (heights : List ℕ) (t t′ : List ℕ) (st st′ : State) : Type 0 where
-  pub text : Puts (lines items) (st .at) (st′ .at) t t′
+  pub text : Appends (lines items) (st .at) (st′ .at) t t′
   pub high : st′ .high ≡ greatest (st .high) heights
   pub worst : st′ .worst ≡ st .worst
   pub label : st′ .label ≡ st .label

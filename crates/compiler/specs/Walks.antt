@@ -21,7 +21,7 @@ use Rattle.compiler.specs.Fine.{FineE, FineEs, FineSs, FineOs}
 use Rattle.compiler.specs.Walked.{raised, leavable, Did, Code, exprSays, exprsSays}
 
 -- x stands in s from lo on
-pub record Lies (s : List ℕ) (lo : ℕ) (x : List ℕ) : Type 0 where
+pub record Holds (s : List ℕ) (lo : ℕ) (x : List ℕ) : Type 0 where
   pub at : (i : ℕ) → i < length x → getD s (lo + i) 0 ≡ getD x i 0
 
 -- between lo and end stands a tree; the names in scope stand below it, with room for as many names as it may have, and so for labels
@@ -31,7 +31,7 @@ pub record Ready {A : Type 0} (enc : A → List ℕ) (deep : A → ℕ) (Fine : 
   pub lo : ℕ
   pub tree : A
   pub scope : Scope
-  pub lies : Lies s lo (enc tree)
+  pub lies : Holds s lo (enc tree)
   pub ends : end ≡ lo + length (enc tree)
   pub above : base ≤ lo
   pub long : base ≤ length s

@@ -6,7 +6,7 @@ use crate::steps::State;
 use crate::steps::Verdict;
 use crate::steps::blame;
 use crate::steps::judge;
-use crate::steps::less;
+use crate::steps::minus;
 use crate::steps::node_at;
 use crate::steps::put;
 use crate::steps::wrong;
@@ -46,7 +46,7 @@ pub(crate) fn by_constant(source: &[u8], s: &[u32], from: usize, end: usize, top
     Verdict {
         word: 0,
         number: 11,
-        place: entry(s, less(end, 2)),
+        place: entry(s, minus(end, 2)),
     }
 }
 
@@ -127,7 +127,11 @@ pub(crate) fn misplaced(
 fn one_case(s: &[u32], end: usize) -> usize
     ensures { λ r. ⌜ CountsLabel (now (s .entry)) end r ⌝ }
 {
-    if entry(s, less(end, 1)) == CASE { 1 } else { 0 }
+    if entry(s, minus(end, 1)) == CASE {
+        1
+    } else {
+        0
+    }
 }
 
 fn count_cases(s: &[u32], from: usize, end: usize) -> usize

@@ -1,6 +1,6 @@
 // The names in scope, on a stack at the front of scratch: two entries each, the name's place and width as one number, and what the name
 // means as a number; or two zeros where a block opens. The tree stands behind the stack and never changes.
-use crate::steps::less;
+use crate::steps::minus;
 ghost use mathlib.Core.Path.{_≡_};
 ghost use mathlib.Core.Bool.{Bool};
 ghost use Prim.Native.Nat.{ℕ, _+_, _*_, _-_, _/_, _%_, _≤_, _<_, _^_, min};
@@ -42,7 +42,7 @@ fn last_byte(source: &[u8], place: usize, n: usize) -> usize
     requires { ⌜ (place < 2 ^ 32) × (n < 2 ^ 32) ⌝ }
     ensures { λ r. ⌜ r ≡ getD (now (source .entry)) (place + (n - 1)) 0 ⌝ }
 {
-    byte_at(source, place + less(n, 1))
+    byte_at(source, place + minus(n, 1))
 }
 
 // Whether so many bytes at two places of the source are the same.

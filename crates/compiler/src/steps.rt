@@ -101,7 +101,7 @@ pub struct Node {
 }
 
 // a - b, or 0.
-pub(crate) fn less(a: usize, b: usize) -> usize
+pub(crate) fn minus(a: usize, b: usize) -> usize
     ensures { λ r. ⌜ r ≡ a - b ⌝ }
 {
     if b < a { a - b } else { 0 }
@@ -110,12 +110,12 @@ pub(crate) fn less(a: usize, b: usize) -> usize
 pub(crate) fn node_at(s: &[u32], end: usize) -> Node
     ensures { λ r. ⌜ NodeAt (now (s .entry)) end r ⌝ }
 {
-    let inner = less(end, 4);
+    let inner = minus(end, 4);
     let size = entry(s, inner);
-    let start = less(inner, size);
-    let value = entry(s, less(end, 3));
-    let place = entry(s, less(end, 2));
-    let kind = entry(s, less(end, 1));
+    let start = minus(inner, size);
+    let value = entry(s, minus(end, 3));
+    let place = entry(s, minus(end, 2));
+    let kind = entry(s, minus(end, 1));
     Node {
         start: start,
         inner: inner,
@@ -130,7 +130,7 @@ pub(crate) fn inside(here: Here) -> Here
     ensures { λ r. ⌜ r ≡ inside here ⌝ }
 {
     let mut r = here;
-    r.left = less(here.left, 1);
+    r.left = minus(here.left, 1);
     r
 }
 
@@ -520,10 +520,10 @@ pub(crate) fn named_constant(m: usize, minus: bool, name: usize, place: usize) -
     }
 }
 
-pub(crate) fn signed(minus: bool, v: usize) -> usize
-    ensures { λ r. ⌜ r ≡ signed minus v ⌝ }
+pub(crate) fn signed(negative: bool, v: usize) -> usize
+    ensures { λ r. ⌜ r ≡ signed negative v ⌝ }
 {
-    if minus { less(65536, v) % 65536 } else { v }
+    if negative { minus(65536, v) % 65536 } else { v }
 }
 
 // The constant that ends there.
@@ -565,7 +565,7 @@ pub(crate) fn judge_most(source: &[u8], s: &[u32], end: usize, top: usize, most:
         return Verdict {
             word: 0,
             number: 11,
-            place: entry(s, less(end, 2)),
+            place: entry(s, minus(end, 2)),
         };
     }
     j

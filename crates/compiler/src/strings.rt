@@ -12,7 +12,7 @@ ghost use Prim.Native.Nat.{ℕ, suc, _+_, _*_, _/_, _%_, _≤_, _<_, _^_};
 ghost use lib.ListN.{length, getD, drop};
 ghost use Rattle.items.specs.Render.{plainText, characterText};
 ghost use Rattle.tree.specs.Read.{decoded};
-ghost use Rattle.writing.specs.Text.{Puts};
+ghost use Rattle.writing.specs.Text.{Appends};
 ghost use Rattle.compiler.specs.Strings.{stringCount, oneIf, Escapes, WritesCharacters, WritesString, WritesSymbol};
 ghost use Rattle.compiler.specs.Strings.{WritesStrings, FindsGlobal, WritesStart, WritesStarts};
 
@@ -58,7 +58,7 @@ fn escape_of(c: u8) -> u8
 
 // A character that has no escape of its own, by its number.
 fn numbered(text: &mut [u8], at: usize, c: u8) -> usize
-    ensures { λ r. ⌜ Puts (42 ∷ (48 + c / 100) ∷ (48 + c / 10 % 10) ∷ (48 + c % 10) ∷ []) at r (now (text .entry)) (now (text .exit)) ⌝ }
+    ensures { λ r. ⌜ Appends (42 ∷ (48 + c / 100) ∷ (48 + c / 10 % 10) ∷ (48 + c % 10) ∷ []) at r (now (text .entry)) (now (text .exit)) ⌝ }
 {
     let a = emit(text, at, b'*');
     let b = emit(text, a, 48 + c / 100);
@@ -68,7 +68,7 @@ fn numbered(text: &mut [u8], at: usize, c: u8) -> usize
 
 // As it stands, or by its number.
 fn plain(text: &mut [u8], at: usize, c: u8) -> usize
-    ensures { λ r. ⌜ Puts (plainText c) at r (now (text .entry)) (now (text .exit)) ⌝ }
+    ensures { λ r. ⌜ Appends (plainText c) at r (now (text .entry)) (now (text .exit)) ⌝ }
 {
     if c < 32 {
         return numbered(text, at, c);
@@ -81,7 +81,7 @@ fn plain(text: &mut [u8], at: usize, c: u8) -> usize
 
 // A character of a string.
 fn character(text: &mut [u8], at: usize, c: u8) -> usize
-    ensures { λ r. ⌜ Puts (characterText c) at r (now (text .entry)) (now (text .exit)) ⌝ }
+    ensures { λ r. ⌜ Appends (characterText c) at r (now (text .entry)) (now (text .exit)) ⌝ }
 {
     let e = escape_of(c);
     if e == 0 {
@@ -214,14 +214,14 @@ pub(crate) fn starts(table: &[u32], functions: usize, text: &mut [u8], at: usize
 
 // The line before all items, and the one behind them.
 pub(crate) fn opening(text: &mut [u8], at: usize) -> usize
-    ensures { λ r. ⌜ Puts (36 ∷ 10 ∷ []) at r (now (text .entry)) (now (text .exit)) ⌝ }
+    ensures { λ r. ⌜ Appends (36 ∷ 10 ∷ []) at r (now (text .entry)) (now (text .exit)) ⌝ }
 {
     let x = emit(text, at, b'$');
     emit(text, x, b'\n')
 }
 
 pub(crate) fn closing(text: &mut [u8], at: usize) -> usize
-    ensures { λ r. ⌜ Puts (90 ∷ 10 ∷ []) at r (now (text .entry)) (now (text .exit)) ⌝ }
+    ensures { λ r. ⌜ Appends (90 ∷ 10 ∷ []) at r (now (text .entry)) (now (text .exit)) ⌝ }
 {
     let x = emit(text, at, b'Z');
     emit(text, x, b'\n')

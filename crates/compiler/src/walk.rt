@@ -57,9 +57,9 @@ use crate::steps::jump_unless;
 use crate::steps::jump_when;
 use crate::steps::keep;
 use crate::steps::leave;
-use crate::steps::less;
 use crate::steps::mark;
 use crate::steps::marked;
+use crate::steps::minus;
 use crate::steps::name_address;
 use crate::steps::name_store;
 use crate::steps::node_at;
@@ -218,9 +218,9 @@ fn applied(
     if end <= middle {
         return expr(source, s, middle, text, here, st);
     }
-    let inner = less(end, 2);
-    let start = less(inner, entry(s, inner));
-    if entry(s, less(end, 1)) == PLING {
+    let inner = minus(end, 2);
+    let start = minus(inner, entry(s, inner));
+    if entry(s, minus(end, 1)) == PLING {
         let a = applied(source, s, middle, start, text, here, st);
         return indexed(source, s, inner, text, here, a);
     }
@@ -353,8 +353,8 @@ fn located(
     ensures { λ r. ⌜ GaveAddressIndex (now (source .entry)) (now (s .entry)) (now (s .exit)) end here (now (text .entry)) (now (text .exit)) st r ⌝ }
 {
     let n = node_at(s, end);
-    let inner = less(n.inner, 2);
-    let start = less(inner, entry(s, inner));
+    let inner = minus(n.inner, 2);
+    let start = minus(inner, entry(s, inner));
     let deep = inside(here);
     let a = applied(source, s, n.start + n.value, start, text, deep, st);
     let b = keep(text, a, here.height);
@@ -402,8 +402,8 @@ fn stored(source: &[u8], s: &mut [u32], end: usize, text: &mut [u8], here: Here,
     ensures { λ r. ⌜ GaveSideIndex (now (source .entry)) (now (s .entry)) (now (s .exit)) end here (now (text .entry)) (now (text .exit)) st r ⌝ }
 {
     let n = node_at(s, end);
-    let inner = less(n.inner, 2);
-    let start = less(inner, entry(s, inner));
+    let inner = minus(n.inner, 2);
+    let start = minus(inner, entry(s, inner));
     let up = raised(inside(here), 1);
     let a = keep(text, st, here.height);
     let b = applied(source, s, n.start + n.value, start, text, up, a);
@@ -606,7 +606,7 @@ fn repeated(
     if n.kind == REPEATED {
         let middle = n.start + n.value;
         let k = count(s, middle, n.inner);
-        let own = less(st.label + 3 * k, 3);
+        let own = minus(st.label + 3 * k, 3);
         let a = fresh(st, 3 * k);
         let b = tops(text, a, st.label, k);
         let c = plain(
@@ -648,7 +648,7 @@ fn forms(
         let a = mark(text, r, own + 1);
         let b = form(source, s, next, text, here, a, size, word, own);
         r = mark(text, b, own + 2);
-        own = less(own, 3);
+        own = minus(own, 3);
         at = next;
     }
     r
@@ -815,7 +815,7 @@ fn for_to(
 {
     let n = node_at(s, end);
     let body = node_at(s, n.inner);
-    let limit_end = less(body.start, n.value);
+    let limit_end = minus(body.start, n.value);
     let limit = node_at(s, limit_end);
     let a = fresh(st, 3);
     let b = expr(source, s, limit.start, text, here, a);

@@ -5,7 +5,7 @@ use Rattle.laws.proofs.Basics.{leb-false, le-leb, lt-leb}
 use Rattle.laws.proofs.Cases.{by-cases}
 use Rattle.items.specs.Item as I
 use Rattle.items.specs.Render.{numeral, numeralOf, letter, indirectText, baseText, operandText, render}
-use Rattle.writing.specs.Text.{over, upto, Text, Puts, line, lines}
+use Rattle.writing.specs.Text.{over, upto, Text, Appends, line, lines}
 
 pub over-length : (o t : List ℕ) → length (over o t) ≡ length t
 unfolding over
@@ -45,7 +45,7 @@ past-room {room} {n} e h =
     by-cases (leb n room) (λ k. omega (arith, upto-in room n (leb-true n room k))) (λ k. omega (arith, leb-false n room k))
 
 -- a byte that has room, and one that has none
-pub emitted : {t : List ℕ} {at : ℕ} (b : ℕ) → at < length t → Puts (b ∷ []) at (at + 1) t (set t at b)
+pub emitted : {t : List ℕ} {at : ℕ} (b : ℕ) → at < length t → Appends (b ∷ []) at (at + 1) t (set t at b)
 emitted {t} {at} b h = record {
   by = λ t₀ o k.
       let el : length t ≡ length t₀ = ap length (k .is) ∙ over-length o t₀ in
@@ -58,7 +58,7 @@ emitted {t} {at} b h = record {
       };
 }
 
-pub passed : {t : List ℕ} {at : ℕ} (b : ℕ) → length t ≤ at → Puts (b ∷ []) at (length t + 1) t t
+pub passed : {t : List ℕ} {at : ℕ} (b : ℕ) → length t ≤ at → Appends (b ∷ []) at (length t + 1) t t
 passed {t} {at} b h = record {
   by = λ t₀ o k.
       let el : length t ≡ length t₀ = ap length (k .is) ∙ over-length o t₀ in
@@ -71,15 +71,15 @@ passed {t} {at} b h = record {
       };
 }
 
-pub puts-then : {w w' : List ℕ} {at x r : ℕ} {t t₁ t₂ : List ℕ}
-    → Puts w at x t t₁ → Puts w' x r t₁ t₂ → Puts (w ++ w') at r t t₂
-puts-then {w} {w'} {r = r} {t₂ = t₂} f g = record {
+pub appends-then : {w w' : List ℕ} {at x r : ℕ} {t t₁ t₂ : List ℕ}
+    → Appends w at x t t₁ → Appends w' x r t₁ t₂ → Appends (w ++ w') at r t t₂
+appends-then {w} {w'} {r = r} {t₂ = t₂} f g = record {
   by = λ t₀ o k.
       subst (λ (l : List ℕ). Text t₀ l r t₂) (append-assoc o w w') (g .by t₀ (o ++ w) (f .by t₀ o k));
 }
 
-pub puts-as : {w w' : List ℕ} {at r : ℕ} {t t' : List ℕ} → Puts w at r t t' → w' ≡ w → Puts w' at r t t'
-puts-as {w} {w'} {at} {r} {t} {t'} f e = subst (λ (l : List ℕ). Puts l at r t t') (sym e) f
+pub appends-as : {w w' : List ℕ} {at r : ℕ} {t t' : List ℕ} → Appends w at r t t' → w' ≡ w → Appends w' at r t t'
+appends-as {w} {w'} {at} {r} {t} {t'} f e = subst (λ (l : List ℕ). Appends l at r t t') (sym e) f
 
 -- numbers: their digits don't depend on the fuel
 enough : (f g n : ℕ) → n < f → n < g → numeral f n ≡ numeral g n
@@ -99,36 +99,36 @@ unfolding numeralOf numeral
 numeral-more n h = rw (le-ltb n 10 h)
     (ap (λ (l : List ℕ). l ++ ((48 + n % 10) ∷ [])) (enough n (suc (n / 10)) (n / 10) (omega arith) (omega arith)))
 
-pub puts-none : {at : ℕ} {t : List ℕ} → Puts [] at at t t
-puts-none {at} {t} = record { by = λ t₀ o k. subst (λ (l : List ℕ). Text t₀ l at t) (sym (append-nil o)) k }
+pub appends-none : {at : ℕ} {t : List ℕ} → Appends [] at at t t
+appends-none {at} {t} = record { by = λ t₀ o k. subst (λ (l : List ℕ). Text t₀ l at t) (sym (append-nil o)) k }
 
 -- items: a letter, then the rest
-module _ (f : ℕ) {x : ℕ} {at p : ℕ} {t t₁ : List ℕ} (e : x ≡ letter f) (a : Puts (x ∷ []) at p t t₁) where
-  lettered : Puts (letter f ∷ []) at p t t₁
-  lettered = subst (λ (b : ℕ). Puts (b ∷ []) at p t t₁) e a
+module _ (f : ℕ) {x : ℕ} {at p : ℕ} {t t₁ : List ℕ} (e : x ≡ letter f) (a : Appends (x ∷ []) at p t t₁) where
+  lettered : Appends (letter f ∷ []) at p t t₁
+  lettered = subst (λ (b : ℕ). Appends (b ∷ []) at p t t₁) e a
 
   pub instruction-put : (i : Bool) (b : I.Base) (n : ℕ) {q r z : ℕ} {t₂ t₃ t₄ : List ℕ}
-      → Puts (indirectText i) p q t₁ t₂ → Puts (baseText b) q r t₂ t₃ → Puts (numeralOf n ++ (10 ∷ [])) r z t₃ t₄
-      → Puts (line (I.instruction f i b (I.number false n))) at z t t₄
+      → Appends (indirectText i) p q t₁ t₂ → Appends (baseText b) q r t₂ t₃ → Appends (numeralOf n ++ (10 ∷ [])) r z t₃ t₄
+      → Appends (line (I.instruction f i b (I.number false n))) at z t t₄
   unfolding line render operandText
   instruction-put i b n c d g =
-      puts-as (puts-then lettered (puts-then c (puts-then d g)))
+      appends-as (appends-then lettered (appends-then c (appends-then d g)))
       (ap (λ (l : List ℕ). letter f ∷ l)
       (append-assoc (indirectText i) (baseText b ++ numeralOf n) (10 ∷ []) ∙
       ap (λ (l : List ℕ). indirectText i ++ l) (append-assoc (baseText b) (numeralOf n) (10 ∷ []))))
 
   pub labelled-put : (n : ℕ) {z : ℕ} {t₂ : List ℕ}
-      → Puts (76 ∷ (numeralOf n ++ (10 ∷ []))) p z t₁ t₂
-      → Puts (line (I.instruction f false I.none (I.address n))) at z t t₂
+      → Appends (76 ∷ (numeralOf n ++ (10 ∷ []))) p z t₁ t₂
+      → Appends (line (I.instruction f false I.none (I.address n))) at z t t₂
   unfolding line render operandText indirectText baseText
-  labelled-put n c = puts-then lettered c
+  labelled-put n c = appends-then lettered c
 
 pub global-put : (n m : ℕ) {at p q z : ℕ} {t t₁ t₂ t₃ : List ℕ}
-    → Puts (71 ∷ []) at p t t₁ → Puts (numeralOf n) p q t₁ t₂ → Puts (76 ∷ (numeralOf m ++ (10 ∷ []))) q z t₂ t₃
-    → Puts (line (I.global n m)) at z t t₃
+    → Appends (71 ∷ []) at p t t₁ → Appends (numeralOf n) p q t₁ t₂ → Appends (76 ∷ (numeralOf m ++ (10 ∷ []))) q z t₂ t₃
+    → Appends (line (I.global n m)) at z t t₃
 unfolding line render
 global-put n m a b c =
-    puts-as (puts-then a (puts-then b c))
+    appends-as (appends-then a (appends-then b c))
     (ap (λ (l : List ℕ). 71 ∷ l) (append-assoc (numeralOf n) (76 ∷ numeralOf m) (10 ∷ [])))
 
 pub letter-past : (f : ℕ) → 8 ≤ f → 0 ≡ letter f

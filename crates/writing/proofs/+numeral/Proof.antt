@@ -1,4 +1,4 @@
-use Rattle.writing.proofs.Laws.{puts-as, puts-then, numeral-one, numeral-more}
+use Rattle.writing.proofs.Laws.{appends-as, appends-then, numeral-one, numeral-more}
 use Rattle.laws.proofs.Basics.{ℕ, _<_, arith, needs}
 use borrow.Fn.Kinds.{In}
 use borrow.Fn.PlainCycle.{Measures, is, falls, and}
@@ -24,5 +24,5 @@ numeral-cs t = (emit-reads.Asked, emit-reads.Learnt, numeral-below t, numeral.Po
 pub +numeral-spec : {M : Type 1} → statement M
 +numeral-spec =
     close μ-numeral λ t. numeral-lts.spec (numeral-cs t) (numeral-at t) numeral.Post (search needs) (search needs)
-    (search needs) (search needs) (λ c. search (puts-as, numeral-one)) (λ c κs. omega arith)
-    (search needs) (search needs) (search needs) (search needs) (λ c. search (puts-as, puts-then, numeral-more))
+    (search needs) (search needs) (λ c. search (appends-as, numeral-one)) (λ c κs. omega arith)
+    (search needs) (search needs) (search needs) (search needs) (λ c. search (appends-as, appends-then, numeral-more))

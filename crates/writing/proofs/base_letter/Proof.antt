@@ -1,5 +1,5 @@
 use Rattle.items.specs.Render.{baseText}
-use Rattle.writing.proofs.Laws.{puts-none}
+use Rattle.writing.proofs.Laws.{appends-none}
 use Rattle.laws.proofs.Basics.{needs}
 use Rattle.writing.proofs.base_letter.Tie as tie
 
@@ -15,5 +15,5 @@ pub base-letter-spec : {M : Type 1} → Rattle.writing.proofs.base_lett
 unfolding baseText
 base-letter-spec =
     tie.close
-    (tie.spec (search needs) (search needs) (search needs) (search needs) (search needs) (λ c. rw (c .enum-told .given .1) puts-none) (search needs)
-    returns-2 (search needs) returns-3)
+    (tie.spec (search needs) (search needs) (search needs) (search needs) (search needs) (λ c. rw (c .enum-told .given .1) appends-none)
+    (search needs) returns-2 (search needs) returns-3)

@@ -1,4 +1,4 @@
-use Rattle.writing.proofs.Laws.{puts-then}
+use Rattle.writing.proofs.Laws.{appends-then}
 use Rattle.writing.specs.Text.{line}
 use Rattle.items.specs.Render.{render}
 use Rattle.laws.proofs.Basics.{needs}
@@ -6,4 +6,4 @@ use Rattle.writing.proofs.label.Tie as tie
 
 pub label-spec : {M : Type 1} → Rattle.writing.proofs.label.Statement.statement M
 unfolding line render
-label-spec = tie.close (tie.spec (search needs) (search needs) (search needs) (search needs) (λ c. search puts-then))
+label-spec = tie.close (tie.spec (search needs) (search needs) (search needs) (search needs) (λ c. search appends-then))

@@ -1,4 +1,4 @@
-use Rattle.writing.proofs.Laws.{puts-then}
+use Rattle.writing.proofs.Laws.{appends-then}
 use Rattle.writing.specs.Text.{line}
 use Rattle.items.specs.Render.{render, operandText}
 use Rattle.laws.proofs.Basics.{needs}
@@ -6,7 +6,7 @@ use Rattle.writing.proofs.label_word.Tie as tie
 
 returns : tie.Need-returns
 unfolding line render operandText
-returns c = puts-then (c .before .before .before .before .before .before .emit .ensures) (c .before .before .last-label .ensures)
+returns c = appends-then (c .before .before .before .before .before .before .emit .ensures) (c .before .before .last-label .ensures)
 
 pub label-word-spec : {M : Type 1} → Rattle.writing.proofs.label_word.Statement.statement M
 label-word-spec = tie.close (tie.spec (search needs) (search needs) (search needs) returns)

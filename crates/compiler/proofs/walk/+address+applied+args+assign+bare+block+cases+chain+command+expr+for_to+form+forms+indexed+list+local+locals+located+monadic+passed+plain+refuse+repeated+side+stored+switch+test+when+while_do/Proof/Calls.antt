@@ -12,7 +12,7 @@ use cycle.Proof.Ranks.{rank, at, calls, both, three, four, nine, applied, args, 
 
 abbrev applied-cs : ℕ → cycle.Lts-applied.Claims
 applied-cs t =
-    nine (calls expr t) (steps.less.Reads.Asked, steps.less.Reads.Learnt) (proofs.scope.entry.Reads.Asked, proofs.scope.entry.Reads.Learnt)
+    nine (calls expr t) (steps.minus.Reads.Asked, steps.minus.Reads.Learnt) (proofs.scope.entry.Reads.Asked, proofs.scope.entry.Reads.Learnt)
     (calls applied t) (calls indexed t) (steps.count.Reads.Asked, steps.count.Reads.Learnt) (calls passed t)
     (steps.raised.Reads.Asked, steps.raised.Reads.Learnt) (steps.put.Reads.Asked, steps.put.Reads.Learnt)
 
@@ -22,11 +22,11 @@ applied-start t c = c .before .before .before .before .before .before .before .b
 
 applied-read : (t : ℕ) (c : cycle.Lts-applied.After-entry2 (applied-cs t) (at applied t) (rank applied .post))
     → let args = applied-start t c .args in LastRead (args .s .now) (args .middle) (args .end) (c .entry2 .result)
-    (c .before .before .before .before .before .before .less .result) (c .before .before .before .less2 .result)
+    (c .before .before .before .before .before .before .minus .result) (c .before .before .before .minus2 .result)
 applied-read t c =
-    let after-less2 = c .before .before .before in let after-less = after-less2 .before .before .before in
-    last-read (after-less .before .if1 .left) (c .before .less3 .ensures) (c .entry2 .ensures .0) (after-less .less .ensures)
-    (after-less2 .before .entry .ensures .0) (after-less2 .less2 .ensures)
+    let after-minus2 = c .before .before .before in let after-minus = after-minus2 .before .before .before in
+    last-read (after-minus .before .if1 .left) (c .before .minus3 .ensures) (c .entry2 .ensures .0) (after-minus .minus .ensures)
+    (after-minus2 .before .entry .ensures .0) (after-minus2 .minus2 .ensures)
 
 applied-few : (t : ℕ) (c : cycle.Lts-applied.After-count (applied-cs t) (at applied t) (rank applied .post))
     → c .count .result < applied-start t (c .before .before .before) .args .end

@@ -74,7 +74,7 @@ while-do-ok t =
 
 abbrev for-to-cs : ℕ → cycle.Lts-for_to.Claims
 for-to-cs t =
-    fifteen (steps.node_at.Reads.Asked, steps.node_at.Reads.Learnt) (steps.less.Reads.Asked, steps.less.Reads.Learnt)
+    fifteen (steps.node_at.Reads.Asked, steps.node_at.Reads.Learnt) (steps.minus.Reads.Asked, steps.minus.Reads.Learnt)
     (steps.fresh.Reads.Asked, steps.fresh.Reads.Learnt) (calls expr t) (steps.keep.Reads.Asked, steps.keep.Reads.Learnt)
     (steps.raised.Reads.Asked, steps.raised.Reads.Learnt) (proofs.labels.by_constant.Reads.Asked, proofs.labels.by_constant.Reads.Learnt)
     (steps.blame.Reads.Asked, steps.blame.Reads.Learnt) (steps.for_test.Reads.Asked, steps.for_test.Reads.Learnt)
@@ -94,9 +94,9 @@ for-to-room : (t : ℕ) (c : ForToTested t) → for-to-start t c .args .here .to
 for-to-room t c =
     let after-node-at3 = c .before .before .before .before .before .before .before .before .before .before .before .before .before .before .before
     .before .before .before .before .before .before .before .before .before .before .before .before .before .before .before in
-    let after-less = after-node-at3 .before .before in let after-node-at2 = after-less .before in
+    let after-minus = after-node-at3 .before .before in let after-node-at2 = after-minus .before in
     let after-node-at = after-node-at2 .before .before in let start = for-to-start t c in
-    for-room _ _ _ (after-node-at .node-at .ensures) (after-node-at2 .node-at2 .ensures) (after-less .less .ensures)
+    for-room _ _ _ (after-node-at .node-at .ensures) (after-node-at2 .node-at2 .ensures) (after-minus .minus .ensures)
     (after-node-at3 .node-at3 .ensures) (start .pre .1 .1 .is) (start .pre .1 .0)
 
 pub for-to-ok : {M : Type 1} (t : ℕ) → cycle.Lts-for_to.Closed (for-to-cs t) (at for-to t) (rank for-to .post) M
@@ -104,11 +104,11 @@ for-to-ok t =
     cycle.Lts-for_to.spec (for-to-cs t) (at for-to t) (rank for-to .post) (λ c κs. search needs) (λ c κs. search needs) (λ c κs. search needs)
     (λ c κs. search needs) (λ c κs. omega arith)
     -- expr-requires
-    (λ c κs. let after-node-at3 = c .before .before .before in let after-less = after-node-at3 .before .before in
-    let after-node-at2 = after-less .before in let after-node-at = after-node-at2 .before .before in
+    (λ c κs. let after-node-at3 = c .before .before .before in let after-minus = after-node-at3 .before .before in
+    let after-node-at2 = after-minus .before in let after-node-at = after-node-at2 .before .before in
     let start = after-node-at .before .before .before .before .before in
     both (omega (arith, start .pre .0)) (for-first _ _ _ (after-node-at .node-at .ensures) (after-node-at2 .node-at2 .ensures)
-    (after-less .less .ensures) (after-node-at3 .node-at3 .ensures) (start .pre .1 .1 .is) (c .before .before .fresh .ensures) (start .pre .1 .0)))
+    (after-minus .minus .ensures) (after-node-at3 .node-at3 .ensures) (start .pre .1 .1 .is) (c .before .before .fresh .ensures) (start .pre .1 .0)))
     -- keep-requires
     (λ c κs. let start = c .before .before .before .before .before .before .before .before .before .before .before .before .before .before .before
     .before .before .before .before in omega (arith, start .pre .1 .0 .height))
@@ -118,12 +118,12 @@ for-to-ok t =
     -- expr-requires-2
     (λ c κs. let after-keep = c .before .before .before .before .before in
     let after-expr = after-keep .before .before .before .before .before .before in let after-fresh = after-expr .before .before .before in
-    let after-node-at3 = after-fresh .before in let after-less = after-node-at3 .before .before in let after-node-at2 = after-less .before in
+    let after-node-at3 = after-fresh .before in let after-minus = after-node-at3 .before .before in let after-node-at2 = after-minus .before in
     let after-node-at = after-node-at2 .before .before in let start = after-node-at .before .before .before .before .before in
     both (omega (arith, start .pre .0, left-at))
-    (ready-at (c .raised .ensures) (for-limit _ _ _ (after-node-at .node-at .ensures) (after-node-at2 .node-at2 .ensures) (after-less .less .ensures)
-    (after-node-at3 .node-at3 .ensures) (start .pre .1 .1 .is) _ (after-fresh .fresh .ensures) (after-expr .expr .ensures) (after-keep .keep .ensures)
-    (start .pre .1 .0))))
+    (ready-at (c .raised .ensures) (for-limit _ _ _ (after-node-at .node-at .ensures) (after-node-at2 .node-at2 .ensures)
+    (after-minus .minus .ensures) (after-node-at3 .node-at3 .ensures) (start .pre .1 .1 .is) _ (after-fresh .fresh .ensures)
+    (after-expr .expr .ensures) (after-keep .keep .ensures) (start .pre .1 .0))))
     -- add-keep
     (λ c. let start = c .before .before .before .before .before .before .before .before .before .before .before .before .before .before .before
     .before .before .before .before .before .before .before .before .before .before .before .before .before .before .before .before .before in
@@ -162,9 +162,9 @@ for-to-ok t =
     let after-expr2 = after-keep2 .before .before .before .before .before .before .before in let after-raised = after-expr2 .before in
     let after-keep = after-raised .before .before .before .before .before in
     let after-expr = after-keep .before .before .before .before .before .before in let after-fresh = after-expr .before .before .before in
-    let after-node-at3 = after-fresh .before in let after-less = after-node-at3 .before .before in let after-node-at2 = after-less .before in
+    let after-node-at3 = after-fresh .before in let after-minus = after-node-at3 .before .before in let after-node-at2 = after-minus .before in
     let after-node-at = after-node-at2 .before .before in let start = after-node-at .before .before .before .before .before in
-    for-name-fine _ _ _ (after-node-at .node-at .ensures) (after-node-at2 .node-at2 .ensures) (after-less .less .ensures)
+    for-name-fine _ _ _ (after-node-at .node-at .ensures) (after-node-at2 .node-at2 .ensures) (after-minus .minus .ensures)
     (after-node-at3 .node-at3 .ensures) (start .pre .1 .1 .is) _ (after-fresh .fresh .ensures) (after-expr .expr .ensures) (after-keep .keep .ensures)
     (gave-at _ (after-raised .raised .ensures) (after-expr2 .expr2 .ensures)) (after-keep2 .keep2 .ensures) (after-by-constant .by-constant .ensures)
     (after-blame .blame .ensures) (after-for-test .for-test .ensures) (after-push .push .ensures) (start .pre .1 .0) in
@@ -182,11 +182,11 @@ for-to-ok t =
     let after-expr2 = after-keep2 .before .before .before .before .before .before .before in let after-raised = after-expr2 .before in
     let after-keep = after-raised .before .before .before .before .before in
     let after-expr = after-keep .before .before .before .before .before .before in let after-fresh = after-expr .before .before .before in
-    let after-node-at3 = after-fresh .before in let after-less = after-node-at3 .before .before in let after-node-at2 = after-less .before in
+    let after-node-at3 = after-fresh .before in let after-minus = after-node-at3 .before .before in let after-node-at2 = after-minus .before in
     let after-node-at = after-node-at2 .before .before in let start = after-node-at .before .before .before .before .before in
     both (omega (arith, start .pre .0, left-at))
     (ready-at (after-set-at .set-at .ensures)
-    (for-body _ _ _ (after-node-at .node-at .ensures) (after-node-at2 .node-at2 .ensures) (after-less .less .ensures)
+    (for-body _ _ _ (after-node-at .node-at .ensures) (after-node-at2 .node-at2 .ensures) (after-minus .minus .ensures)
     (after-node-at3 .node-at3 .ensures) (start .pre .1 .1 .is) _ (after-fresh .fresh .ensures) (after-expr .expr .ensures) (after-keep .keep .ensures)
     (gave-at _ (after-raised .raised .ensures) (after-expr2 .expr2 .ensures)) (after-keep2 .keep2 .ensures) (after-by-constant .by-constant .ensures)
     (after-blame .blame .ensures) (after-for-test .for-test .ensures) (after-push .push .ensures) (after-push-name .push-name .ensures) refl
@@ -222,9 +222,9 @@ for-to-ok t =
     let after-expr2 = after-keep2 .before .before .before .before .before .before .before in let after-raised = after-expr2 .before in
     let after-keep = after-raised .before .before .before .before .before in
     let after-expr = after-keep .before .before .before .before .before .before in let after-fresh = after-expr .before .before .before in
-    let after-node-at3 = after-fresh .before in let after-less = after-node-at3 .before .before in let after-node-at2 = after-less .before in
+    let after-node-at3 = after-fresh .before in let after-minus = after-node-at3 .before .before in let after-node-at2 = after-minus .before in
     let after-node-at = after-node-at2 .before .before in let start = after-node-at .before .before .before .before .before in
-    for-gave _ _ _ (after-node-at .node-at .ensures) (after-node-at2 .node-at2 .ensures) (after-less .less .ensures)
+    for-gave _ _ _ (after-node-at .node-at .ensures) (after-node-at2 .node-at2 .ensures) (after-minus .minus .ensures)
     (after-node-at3 .node-at3 .ensures) (start .pre .1 .1 .is) _ (after-fresh .fresh .ensures) (after-expr .expr .ensures) (after-keep .keep .ensures)
     (gave-at _ (after-raised .raised .ensures) (after-expr2 .expr2 .ensures)) (after-keep2 .keep2 .ensures) (after-by-constant .by-constant .ensures)
     (after-blame .blame .ensures) (after-for-test .for-test .ensures) (after-push .push .ensures) (after-push-name .push-name .ensures) refl _
@@ -243,7 +243,7 @@ form-ok t =
 abbrev forms-cs : ℕ → cycle.Lts-forms.Claims
 forms-cs t =
     four (proofs.scope.entry.Reads.Asked, proofs.scope.entry.Reads.Learnt) (steps.mark.Reads.Asked, steps.mark.Reads.Learnt) (calls form t)
-    (steps.less.Reads.Asked, steps.less.Reads.Learnt)
+    (steps.minus.Reads.Asked, steps.minus.Reads.Learnt)
 
 abbrev forms-Inv-loop : cycle.Lts-forms.InvT-loop
 forms-Inv-loop source s₀ from end text₀ here innermost at₀ own₀ r₀ s text at own r =
@@ -279,14 +279,14 @@ forms-ok t =
       omega (arith, after-loop .loop .inv .2),
       λ y. forms-next _ _
           (start .args .innermost) (after-loop-test .loop-test .taken) (after-entry .entry .ensures .0) (after-entry2 .entry2 .ensures .0) refl
-          (after-mark .mark .ensures) (after-form .form .ensures) (after-mark2 .mark2 .ensures) (c .less .ensures) y (after-loop .loop .inv .3 y),
+          (after-mark .mark .ensures) (after-form .form .ensures) (after-mark2 .mark2 .ensures) (c .minus .ensures) y (after-loop .loop .inv .3 y),
     ))
     (λ c. c .before .loop .inv .0) (λ c. c .before .loop .inv .1) (λ c. forms-end _ _ _ (c .loop-test .left) (c .before .loop .inv .3))
 
 abbrev repeated-cs : ℕ → cycle.Lts-repeated.Claims
 repeated-cs t =
     eight (steps.node_at.Reads.Asked, steps.node_at.Reads.Learnt) (steps.count.Reads.Asked, steps.count.Reads.Learnt)
-    (steps.less.Reads.Asked, steps.less.Reads.Learnt) (steps.fresh.Reads.Asked, steps.fresh.Reads.Learnt)
+    (steps.minus.Reads.Asked, steps.minus.Reads.Learnt) (steps.fresh.Reads.Asked, steps.fresh.Reads.Learnt)
     (steps.tops.Reads.Asked, steps.tops.Reads.Learnt) (steps.in_loop.Reads.Asked, steps.in_loop.Reads.Learnt) (calls plain t) (calls forms t)
 
 repeated-fit : (t : ℕ) (c : cycle.Lts-repeated.After-count (repeated-cs t) (at repeated t) (rank repeated .post)) → (1 ≤ c .count .result) ×
@@ -310,21 +310,21 @@ repeated-ok t =
     -- forms-requires
     (λ c κs. let after-plain = c .before .before .before .before .before .before in let after-in-loop = after-plain .before in
     let after-tops = after-in-loop .before .before .before .before .before in let after-fresh = after-tops .before .before in
-    let after-less = after-fresh .before in let after-count = after-less .before .before in let after-if1 = after-count .before .before .before in
+    let after-minus = after-fresh .before in let after-count = after-minus .before .before in let after-if1 = after-count .before .before .before in
     let after-node-at = after-if1 .before .before in let start = after-node-at .before .before .before .before .before in
     both (omega (arith, start .pre .0)) (both
     (repeated-forms _ (after-node-at .node-at .ensures) (after-if1 .if1 .taken) refl (after-count .count .ensures) (after-fresh .fresh .ensures)
-    (after-tops .tops .ensures) _ (start .args .ways) (after-less .less .ensures)
+    (after-tops .tops .ensures) _ (start .args .ways) (after-minus .minus .ensures)
     (gave-u-at _ refl (after-in-loop .in-loop .ensures) (after-plain .plain .ensures)) (start .pre .1))
-    (omega (arith, repeated-fit t after-count, after-less .less .ensures))))
+    (omega (arith, repeated-fit t after-count, after-minus .minus .ensures))))
     (λ c. search needs) (λ c. search needs)
     -- returns
     (λ c. let after-forms = c .before .before .before .before in
     let after-plain = after-forms .before .before .before .before .before .before .before in let after-in-loop = after-plain .before in
     let after-tops = after-in-loop .before .before .before .before .before in let after-fresh = after-tops .before .before in
-    let after-less = after-fresh .before in let after-count = after-less .before .before in let after-if1 = after-count .before .before .before in
+    let after-minus = after-fresh .before in let after-count = after-minus .before .before in let after-if1 = after-count .before .before .before in
     let after-node-at = after-if1 .before .before in
     repeated-gave _ (after-node-at .node-at .ensures) (after-if1 .if1 .taken) refl (after-count .count .ensures) (after-fresh .fresh .ensures)
-    (after-tops .tops .ensures) _ _ (after-less .less .ensures) (gave-u-at _ refl (after-in-loop .in-loop .ensures) (after-plain .plain .ensures))
+    (after-tops .tops .ensures) _ _ (after-minus .minus .ensures) (gave-u-at _ refl (after-in-loop .in-loop .ensures) (after-plain .plain .ensures))
     (after-forms .forms .ensures))
     (λ c κs. search (needs, once-part)) (λ c. search needs) (λ c. search needs) (λ c. search once-gave)

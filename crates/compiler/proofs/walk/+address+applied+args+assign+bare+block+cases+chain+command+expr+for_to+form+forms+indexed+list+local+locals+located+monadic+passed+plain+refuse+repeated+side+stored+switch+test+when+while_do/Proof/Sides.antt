@@ -46,7 +46,7 @@ address-ok t =
 
 abbrev located-cs : ℕ → cycle.Lts-located.Claims
 located-cs t =
-    nine (steps.node_at.Reads.Asked, steps.node_at.Reads.Learnt) (steps.less.Reads.Asked, steps.less.Reads.Learnt)
+    nine (steps.node_at.Reads.Asked, steps.node_at.Reads.Learnt) (steps.minus.Reads.Asked, steps.minus.Reads.Learnt)
     (proofs.scope.entry.Reads.Asked, proofs.scope.entry.Reads.Learnt) (steps.inside.Reads.Asked, steps.inside.Reads.Learnt) (calls applied t)
     (steps.keep.Reads.Asked, steps.keep.Reads.Learnt) (steps.raised.Reads.Asked, steps.raised.Reads.Learnt) (calls expr t)
     (steps.put.Reads.Asked, steps.put.Reads.Learnt)
@@ -56,13 +56,13 @@ located-ok t =
     cycle.Lts-located.spec (located-cs t) (at located t) (rank located .post) (λ c κs. search needs) (λ c κs. search needs) (λ c κs. search needs)
     (λ c κs. search needs) (λ c κs. search needs) (λ c. omega arith)
     -- applied-requires
-    (λ c κs. let after-inside = c .before .before .before in let after-less2 = after-inside .before in let after-entry = after-less2 .before in
-    let after-less = after-entry .before .before in let after-node-at = after-less .before in
+    (λ c κs. let after-inside = c .before .before .before in let after-minus2 = after-inside .before in let after-entry = after-minus2 .before in
+    let after-minus = after-entry .before .before in let after-node-at = after-minus .before in
     let start = after-node-at .before .before .before .before .before in
     both (omega (arith, start .pre .0, left-at, some-left, start .pre .1 .0 .small))
     (suffixes-ready-at (after-inside .inside .ensures)
-    (address-left _ (after-node-at .node-at .ensures) (start .pre .1 .1) refl (after-less .less .ensures) (after-entry .entry .ensures .0)
-    (after-less2 .less2 .ensures) (start .pre .1 .0))))
+    (address-left _ (after-node-at .node-at .ensures) (start .pre .1 .1) refl (after-minus .minus .ensures) (after-entry .entry .ensures .0)
+    (after-minus2 .minus2 .ensures) (start .pre .1 .0))))
     -- keep-requires
     (λ c κs. let start = c .before .before .before .before .before .before .before .before .before .before .before .before .before .before .before
     .before .before .before .before in omega (arith, start .pre .1 .0 .height))
@@ -73,13 +73,13 @@ located-ok t =
     -- expr-requires
     (λ c κs. let after-keep = c .before .before .before .before .before in
     let after-applied = after-keep .before .before .before .before .before .before in
-    let after-inside = after-applied .before .before .before .before in let after-less2 = after-inside .before in
-    let after-entry = after-less2 .before in let after-less = after-entry .before .before in let after-node-at = after-less .before in
+    let after-inside = after-applied .before .before .before .before in let after-minus2 = after-inside .before in
+    let after-entry = after-minus2 .before in let after-minus = after-entry .before .before in let after-node-at = after-minus .before in
     let start = after-node-at .before .before .before .before .before in
     both (omega (arith, start .pre .0, left-at, some-left))
     (ready-at (c .raised .ensures ∙ ap (raised 1) (after-inside .inside .ensures))
-    (address-right _ (after-node-at .node-at .ensures) (start .pre .1 .1) refl (after-less .less .ensures) (after-entry .entry .ensures .0)
-    (after-less2 .less2 .ensures) _ (suffixes-gave-at (after-inside .inside .ensures) (after-applied .applied .ensures)) (after-keep .keep .ensures)
+    (address-right _ (after-node-at .node-at .ensures) (start .pre .1 .1) refl (after-minus .minus .ensures) (after-entry .entry .ensures .0)
+    (after-minus2 .minus2 .ensures) _ (suffixes-gave-at (after-inside .inside .ensures) (after-applied .applied .ensures)) (after-keep .keep .ensures)
     (start .pre .1 .0))))
     (λ c κs. search needs)
     -- same-length
@@ -95,11 +95,11 @@ located-ok t =
     (λ c. let after-expr = c .before .before .before .before .before .before .before .before in let after-raised = after-expr .before in
     let after-keep = after-raised .before .before .before .before .before in
     let after-applied = after-keep .before .before .before .before .before .before in
-    let after-inside = after-applied .before .before .before .before in let after-less2 = after-inside .before in
-    let after-entry = after-less2 .before in let after-less = after-entry .before .before in let after-node-at = after-less .before in
+    let after-inside = after-applied .before .before .before .before in let after-minus2 = after-inside .before in
+    let after-entry = after-minus2 .before in let after-minus = after-entry .before .before in let after-node-at = after-minus .before in
     let start = after-node-at .before .before .before .before .before in
-    address-index-gave _ (after-node-at .node-at .ensures) (start .pre .1 .1) refl (after-less .less .ensures) (after-entry .entry .ensures .0)
-    (after-less2 .less2 .ensures) _ (suffixes-gave-at (after-inside .inside .ensures) (after-applied .applied .ensures)) (after-keep .keep .ensures)
+    address-index-gave _ (after-node-at .node-at .ensures) (start .pre .1 .1) refl (after-minus .minus .ensures) (after-entry .entry .ensures .0)
+    (after-minus2 .minus2 .ensures) _ (suffixes-gave-at (after-inside .inside .ensures) (after-applied .applied .ensures)) (after-keep .keep .ensures)
     (gave-at _ (after-raised .raised .ensures ∙ ap (raised 1) (after-inside .inside .ensures)) (after-expr .expr .ensures))
     (c .before .before .put .ensures))
 
@@ -170,7 +170,7 @@ side-ok t =
 
 abbrev stored-cs : ℕ → cycle.Lts-stored.Claims
 stored-cs t =
-    nine (steps.node_at.Reads.Asked, steps.node_at.Reads.Learnt) (steps.less.Reads.Asked, steps.less.Reads.Learnt)
+    nine (steps.node_at.Reads.Asked, steps.node_at.Reads.Learnt) (steps.minus.Reads.Asked, steps.minus.Reads.Learnt)
     (proofs.scope.entry.Reads.Asked, proofs.scope.entry.Reads.Learnt) (steps.inside.Reads.Asked, steps.inside.Reads.Learnt)
     (steps.raised.Reads.Asked, steps.raised.Reads.Learnt) (steps.keep.Reads.Asked, steps.keep.Reads.Learnt) (calls applied t) (calls expr t)
     (steps.store_indexed.Reads.Asked, steps.store_indexed.Reads.Learnt)
@@ -188,15 +188,15 @@ stored-ok t =
     omega (arith, after-node-at .node-at .ensures .value-fits, after-node-at .node-at .ensures .start, start .pre .1 .0 .small))
     -- applied-requires
     (λ c κs. let after-keep = c .before .before .before .before .before in let after-raised = after-keep .before .before in
-    let after-inside = after-raised .before in let after-less2 = after-inside .before in let after-entry = after-less2 .before in
-    let after-less = after-entry .before .before in let after-node-at = after-less .before in
+    let after-inside = after-raised .before in let after-minus2 = after-inside .before in let after-entry = after-minus2 .before in
+    let after-minus = after-entry .before .before in let after-node-at = after-minus .before in
     let start = after-node-at .before .before .before .before .before in
     both (let falls = start .pre .0 in let left = left-at (after-raised .raised .ensures) in let left2 = left-at (after-inside .inside .ensures) in
     let some = some-left (start .pre .1 .0) in let small = start .pre .1 .0 .small in let inner = after-node-at .node-at .ensures .inner in
-    let less-is = after-less .less .ensures in let less2-is = after-less2 .less2 .ensures in
+    let minus-is = after-minus .minus .ensures in let minus2-is = after-minus2 .minus2 .ensures in
     omega arith) (suffixes-ready-at (after-raised .raised .ensures ∙ ap (raised 1) (after-inside .inside .ensures))
-    (side-left _ (after-node-at .node-at .ensures) (start .pre .1 .1) refl (after-less .less .ensures) (after-entry .entry .ensures .0)
-    (after-less2 .less2 .ensures) [] (after-keep .keep .ensures) (start .pre .1 .0))))
+    (side-left _ (after-node-at .node-at .ensures) (start .pre .1 .1) refl (after-minus .minus .ensures) (after-entry .entry .ensures .0)
+    (after-minus2 .minus2 .ensures) [] (after-keep .keep .ensures) (start .pre .1 .0))))
     -- add-keep
     (λ c. let start = c .before .before .before .before .before .before .before .before .before .before .before .before .before .before .before
     .before .before .before .before .before .before .before .before .before .before in omega (arith, start .pre .1 .0 .height))
@@ -213,14 +213,14 @@ stored-ok t =
     (λ c κs. let after-keep2 = c .before .before .before .before .before in
     let after-applied = after-keep2 .before .before .before .before .before .before .before in
     let after-keep = after-applied .before .before .before .before .before .before in let after-raised = after-keep .before .before in
-    let after-inside = after-raised .before in let after-less2 = after-inside .before in let after-entry = after-less2 .before in
-    let after-less = after-entry .before .before in let after-node-at = after-less .before in
+    let after-inside = after-raised .before in let after-minus2 = after-inside .before in let after-entry = after-minus2 .before in
+    let after-minus = after-entry .before .before in let after-node-at = after-minus .before in
     let start = after-node-at .before .before .before .before .before in
     both (let falls = start .pre .0 in let left = left-at (c .raised2 .ensures) in let left2 = left-at (after-raised .raised .ensures) in
     let left3 = left-at (after-inside .inside .ensures) in let some = some-left (start .pre .1 .0) in
     omega arith) (ready-at (c .raised2 .ensures ∙ ap (raised 1) (after-raised .raised .ensures ∙ ap (raised 1) (after-inside .inside .ensures)))
-    (side-right _ (after-node-at .node-at .ensures) (start .pre .1 .1) refl (after-less .less .ensures) (after-entry .entry .ensures .0)
-    (after-less2 .less2 .ensures) _ (after-keep .keep .ensures)
+    (side-right _ (after-node-at .node-at .ensures) (start .pre .1 .1) refl (after-minus .minus .ensures) (after-entry .entry .ensures .0)
+    (after-minus2 .minus2 .ensures) _ (after-keep .keep .ensures)
     (suffixes-gave-at (after-raised .raised .ensures ∙ ap (raised 1) (after-inside .inside .ensures)) (after-applied .applied .ensures))
     (after-keep2 .keep2 .ensures) (start .pre .1 .0))))
     -- store-indexed-requires
@@ -243,11 +243,11 @@ stored-ok t =
     let after-keep2 = after-raised2 .before .before .before .before .before in
     let after-applied = after-keep2 .before .before .before .before .before .before .before in
     let after-keep = after-applied .before .before .before .before .before .before in let after-raised = after-keep .before .before in
-    let after-inside = after-raised .before in let after-less2 = after-inside .before in let after-entry = after-less2 .before in
-    let after-less = after-entry .before .before in let after-node-at = after-less .before in
+    let after-inside = after-raised .before in let after-minus2 = after-inside .before in let after-entry = after-minus2 .before in
+    let after-minus = after-entry .before .before in let after-node-at = after-minus .before in
     let start = after-node-at .before .before .before .before .before in
-    side-index-gave _ (after-node-at .node-at .ensures) (start .pre .1 .1) refl (after-less .less .ensures) (after-entry .entry .ensures .0)
-    (after-less2 .less2 .ensures) _ (after-keep .keep .ensures)
+    side-index-gave _ (after-node-at .node-at .ensures) (start .pre .1 .1) refl (after-minus .minus .ensures) (after-entry .entry .ensures .0)
+    (after-minus2 .minus2 .ensures) _ (after-keep .keep .ensures)
     (suffixes-gave-at (after-raised .raised .ensures ∙ ap (raised 1) (after-inside .inside .ensures)) (after-applied .applied .ensures))
     (after-keep2 .keep2 .ensures) (gave-at _ (after-raised2 .raised2 .ensures
     ∙ ap (raised 1) (after-raised .raised .ensures ∙ ap (raised 1) (after-inside .inside .ensures))) (after-expr .expr .ensures))
