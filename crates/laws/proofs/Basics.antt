@@ -14,9 +14,13 @@ pub use lib.Dec.{eqb, ltb, leb, lit<, lit≤}
 pub use native.Mathlib.Nat.{le-refl, le-trans, lt-of-lt-of-le, lt-of-le-of-lt, eq-or-lt-of-le, add-zero, zero-add, sub-zero, suc-add}
 pub use native.Mathlib.Numerals.{add-one}
 pub use native.Mathlib.Omega.{arith}
-pub use borrow.Author.Needs.{needs}
 pub use borrow.Author.Tests.{eqb-true, eqb-false, eq-eqb, ne-eqb, ltb-true, ltb-false, lt-ltb, le-ltb, leb-true, leb-false, le-leb, lt-leb}
 pub use borrow.Author.Tests.{not-true, not-false}
+use borrow.Author.Needs.{zero≤, scaled-fits}
+
+-- What `search` is handed for a need that is trivial or is linear arithmetic: of the toolchain's set of this name what needs here ask for,
+-- and nothing of floats, signed numbers and what arrays hold. Each rule is tried at each need, so a shorter set is faster.
+pub ruleset needs = (tt, lit<, lit≤, zero≤, le-refl, length-set, scaled-fits, leb-false, ltb-false, arith)
 
 -- one more on the other side
 pub add-shift : (n m : ℕ) → n + suc m ≡ suc n + m
