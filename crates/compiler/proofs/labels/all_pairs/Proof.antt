@@ -14,7 +14,7 @@ all-pairs-spec =
     (search needs) (λ c κs. omega arith) (λ c _. c .before .labels-of .ensures .small) (λ c. omega arith) (λ c. omega arith)
     -- loop-again
     (λ c. (
-      cc,
+      omega arith,
       search still-then,
       omega arith,
       (let after-labels-of = c .before .before .before .before in

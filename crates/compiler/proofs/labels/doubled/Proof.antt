@@ -14,7 +14,7 @@ doubled-spec =
     -- loop-again
     (λ c. let after-labels-of = c .before .before .before in let after-next-item = after-labels-of .before in
     let after-loop-test = after-next-item .before in let after-loop = after-loop-test .before in (
-      cc,
+      omega arith,
       λ y. list-next _ _ (after-loop-test .loop-test .taken) (after-next-item .next-item .ensures) (after-labels-of .labels-of .ensures)
           (c .before .doubled-in .ensures) y (after-loop .loop .inv .1 y),
     ))

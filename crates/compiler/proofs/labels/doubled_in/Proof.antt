@@ -17,7 +17,7 @@ doubled-in-spec =
     -- loop-again
     (λ c. let after-next-item = c .before .before .before .before in let after-loop-test = after-next-item .before in
     let after-loop = after-loop-test .before in let start = after-loop .before .before .before .before in (
-      cc,
+      omega arith,
       λ y first m. own-next _ (start .args .st) (after-loop-test .loop-test .taken) (after-next-item .next-item .ensures)
           (c .before .before .doubled-label .ensures) y first (after-loop .loop .inv .1 y first m),
     ))

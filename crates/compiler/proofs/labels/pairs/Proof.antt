@@ -14,7 +14,7 @@ pairs-spec =
     (search needs) (λ c κs. omega arith) (λ c. omega arith)
     -- loop-again
     (λ c. (
-      cc,
+      omega arith,
       search still-then,
       (let after-next-item = c .before .before .before .before in let after-loop-test = after-next-item .before in
           let after-loop = after-loop-test .before in λ y so. pairs-next _ _ _ _ (after-loop-test .loop-test .taken)

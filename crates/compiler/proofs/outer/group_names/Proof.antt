@@ -27,8 +27,8 @@ group-names-spec =
     let after-entry2 = after-name-fault .before .before in let after-lookup = after-entry2 .before .before in
     let after-entry = after-lookup .before .before in let after-loop-test = after-entry .before .before in
     let after-loop = after-loop-test .before in let start = after-loop .before .before .before .before in (
-      cc,
-      cc,
+      omega arith,
+      omega arith,
       λ y. names-next (start .args .source .now) _ (after-loop-test .loop-test .taken) (after-entry .entry .ensures .0) refl
           (after-lookup .lookup .ensures .0) (after-entry2 .entry2 .ensures .0) (after-name-fault .name-fault .ensures) (after-enter .enter .ensures)
           y (after-loop .loop .inv .2 y),

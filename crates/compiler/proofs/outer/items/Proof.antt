@@ -40,7 +40,7 @@ items-spec =
     let after-item-constant = after-in-block .before .before in let after-entry = after-item-constant .before .before in
     let after-loop-test = after-entry .before .before in let after-loop = after-loop-test .before in
     let start = after-loop .before .before .before in (
-      cc,
+      omega arith,
       λ y. items-next _ _ (start .args .st) _ (after-loop-test .loop-test .taken) (after-entry .entry .ensures .0) refl
           (after-item-constant .item-constant .ensures) (after-in-block .in-block .ensures) (after-entry2 .entry2 .ensures .0)
           (after-blame .blame .ensures) (after-again .again .ensures) (c .before .before .push-name .ensures) (after-meaning .meaning .ensures) y

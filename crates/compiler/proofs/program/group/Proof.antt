@@ -32,8 +32,8 @@ group-spec =
     (λ c. let after-function = c .before .before .before .before .before .before .before .before in
     let after-entry = after-function .before .before .before in let after-loop-test = after-entry .before .before in
     let after-loop = after-loop-test .before in (
-      cc,
-      cc,
+      omega arith,
+      omega arith,
       λ y before k. group-next _ _ _ _ (after-loop-test .loop-test .taken) (after-entry .entry .ensures .0) refl y
           (after-loop .loop .inv .2 y before k) (after-function .function .ensures) (c .before .before .entry2 .ensures .0)
           (c .before .before .entry2 .ensures .1) (c .before .too-tall .ensures) (c .level .ensures),

@@ -25,9 +25,9 @@ program-spec =
     (λ c. let after-declaration = c .before .before .before .before .before .before in
     let after-entry2 = after-declaration .before .before .before .before in let after-entry = after-entry2 .before .before in
     let after-loop-test = after-entry .before .before in let after-loop = after-loop-test .before in (
-      cc,
+      omega arith,
       after-declaration .declaration .kept .1 .1 .0 ∙ after-loop .loop .inv .1,
-      cc,
+      omega arith,
       λ y. program-next _ _ _
           (after-loop-test .loop-test .taken) (after-entry .entry .ensures .0) refl (after-entry2 .entry2 .ensures .0) y (after-loop .loop .inv .3 y)
           (after-declaration .declaration .ensures),

@@ -21,7 +21,7 @@ in-block-spec =
       by = λ sc h. let l = after-loop .loop .inv .1 sc h in sym (ap found (l .same ∙ in-open _ _ (start .args .leaf) _
           (c .before .before .loop-test .taken) (c .before .stacked .ensures .0) (l .shows) (c .if2 .taken)));
     })
-    (λ c κs. omega arith) (λ c κs. search needs)
+    (λ c κs. omega arith) (λ c κs. omega arith)
     -- returns-3
     (λ c. let after-if2 = c .before .before .before in let after-stacked = after-if2 .before in let after-loop-test = after-stacked .before in
     let after-loop = after-loop-test .before in let after-entry2 = after-loop .before .before in let after-entry = after-entry2 .before in

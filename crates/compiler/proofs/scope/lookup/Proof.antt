@@ -38,7 +38,7 @@ lookup-spec =
       (let after-loop = c .before .before .before in λ sc h. let l = after-loop .loop .inv .2 sc h in
           left-then _ sc l (at-open _ _ _ _ (c .before .before .if2 .left) (c .before .stacked .ensures .0) (l .shows) (c .if3 .taken))),
     ))
-    (λ c κs. omega arith) (λ c κs. search needs) (λ c. omega arith)
+    (λ c κs. omega arith) (λ c κs. omega arith) (λ c. omega arith)
     -- loop-again
     (λ c. (
       omega arith,

@@ -30,7 +30,7 @@ declare-spec =
     (λ c. let after-again = c .before .before .before .before in let after-entry = after-again .before in
     let after-in-block = after-entry .before .before in let after-loop-test = after-in-block .before .before in
     let after-loop = after-loop-test .before in (
-      cc,
+      omega arith,
       λ y. names-next _ _ (after-loop-test .loop-test .taken) (after-in-block .in-block .ensures) (after-entry .entry .ensures .0)
           (after-again .again .ensures) (c .before .before .push-name .ensures) refl y (after-loop .loop .inv .1 y),
     ))

@@ -15,7 +15,7 @@ strings-spec =
     -- loop-again
     (λ c. let entry = c .before .before .before .before .before .before .entry in
     let loop = c .before .before .before .before .before .before .before .before .loop in (
-      search needs,
+      omega arith,
       omega (arith, oneIf-small (entry .result)),
       listing-next
           (c .before .before .before .before .before .before .before .loop-test .taken) (entry .ensures .0)

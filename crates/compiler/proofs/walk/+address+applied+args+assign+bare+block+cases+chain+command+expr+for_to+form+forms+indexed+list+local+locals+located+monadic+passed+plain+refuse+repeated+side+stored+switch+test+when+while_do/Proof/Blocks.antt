@@ -19,7 +19,7 @@ block-cs t =
 
 pub block-ok : {M : Type 1} (t : ℕ) → cycle.Lts-block.Closed (block-cs t) (at block t) (rank block .post) M
 block-ok t =
-    cycle.Lts-block.spec (block-cs t) (at block t) (rank block .post) (λ c κs. search needs) (λ c. omega arith)
+    cycle.Lts-block.spec (block-cs t) (at block t) (rank block .post) (λ c κs. omega arith) (λ c. omega arith)
     (λ c κs. let start = c .before .before .before .before .before .before .before in
     (block-room _ (c .before .before .node-at .ensures) (start .pre .1 .1 .is) refl (start .pre .1 .0) .1, omega arith, omega arith))
     -- marked-requires
@@ -29,7 +29,7 @@ block-ok t =
     let above = start .pre .1 .0 .above in let ends = start .pre .1 .0 .ends in let small = start .pre .1 .0 .small in omega arith)
     (λ c κs. both (let falls = c .before .before .before .before .before .before .before .before .before .before .before .before .before .pre .0 in
     omega (arith, left-at)) (search (locals-ready-at, block-locals)))
-    (λ c κs. search needs)
+    (λ c κs. omega arith)
     -- list-requires
     (λ c κs. let after-locals = c .before .before .before .before .before .before .before .before in let after-marked = after-locals .before in
     let after-push = after-marked .before .before .before .before .before in let after-node-at = after-push .before .before .before in
@@ -37,7 +37,7 @@ block-ok t =
     both (omega (arith, start .pre .0, left-at))
     (list-ready-at (c .set-at .ensures) (block-list _ (after-node-at .node-at .ensures) (start .pre .1 .1 .is) refl (after-push .push .ensures) _
     (locals-gave-at (after-marked .marked .ensures) (after-locals .locals .ensures)) (start .pre .1 .0))))
-    (λ c. search needs) (λ c. search needs)
+    (λ c. omega arith) (λ c. omega arith)
     -- returns
     (λ c. let after-list = c .before .before .before .before in let after-set-at = after-list .before in
     let after-locals = after-set-at .before .before .before .before .before .before .before .before in let after-marked = after-locals .before in
@@ -57,15 +57,15 @@ list-Inv-loop source s₀ from end text₀ here ways at₀ r₀ s text at r =
 pub list-ok : {M : Type 1} (t : ℕ) → cycle.Lts-list.Closed (list-cs t) (at list t) (rank list .post) M
 list-ok t =
     cycle.Lts-list.spec (list-cs t) (at list t) (rank list .post) list-Inv-loop (λ source s₀ from end text₀ here ways at₀ r₀ s text at r. end - at)
-    (λ c. search (needs, list-begin)) (λ c. omega arith) (λ c κs. search needs) (λ c. omega (arith, c .entry .ensures .1))
+    (λ c. search (needs, list-begin)) (λ c. omega arith) (λ c κs. omega arith) (λ c. omega (arith, c .entry .ensures .1))
     -- command-requires
     (λ c κs. let after-loop-test = c .before .before .before .before in let after-loop = after-loop-test .before in
     let start = after-loop .before .before .before .before in
     both (omega arith) (list-part _ _ _ (after-loop-test .loop-test .taken) (c .before .before .entry .ensures .0) refl (start .pre .1)
     (after-loop .loop .inv .2 (start .pre .1))))
     (λ c. omega arith)
-    (λ c. (cc, cc, λ y. search (list-next, c .before .before .before .before .before .before .before .before .before .before .loop .inv .2)))
-    (λ c. search needs) (λ c. search needs) (λ c. search list-end)
+    (λ c. (omega arith, omega arith, λ y. search (list-next, c .before .before .before .before .before .before .before .before .before .before .loop .inv .2)))
+    (λ c. omega arith) (λ c. omega arith) (λ c. search list-end)
 
 abbrev local-cs : ℕ → cycle.Lts-local.Claims
 local-cs t =
@@ -74,8 +74,8 @@ local-cs t =
 
 pub local-ok : {M : Type 1} (t : ℕ) → cycle.Lts-local.Closed (local-cs t) (at local t) (rank local .post) M
 local-ok t =
-    cycle.Lts-local.spec (local-cs t) (at local t) (rank local .post) (λ c κs. search needs) (λ c κs. search needs) (λ c. search needs)
-    (λ c. search needs) (λ c. c .before .before .before .before .vector .ensures) (λ c. omega arith) (λ c κs. search (needs, values-args))
+    cycle.Lts-local.spec (local-cs t) (at local t) (rank local .post) (λ c κs. omega arith) (λ c κs. search needs) (λ c. omega arith)
+    (λ c. omega arith) (λ c. c .before .before .before .before .vector .ensures) (λ c. omega arith) (λ c κs. search (needs, values-args))
     (λ c κs. search values-names)
     -- add-t25
     (λ c. let after-node-at = c .before .before .before .before .before .before .before .before .before .before .before .before .before .before
@@ -86,7 +86,7 @@ local-ok t =
     (λ c. let after-node-at = c .before .before .before .before .before .before .before .before .before .before .before .before .before .before
     .before .before .before .before in let start = after-node-at .before .before .before .before .before in
     omega (arith, after-node-at .node-at .ensures .value-fits, start .pre .1 .height))
-    (λ c. search needs) (λ c. search needs)
+    (λ c. omega arith) (λ c. omega arith)
     -- returns-2
     (λ c. let after-declare = c .before .before .before .before .before .before in
     let after-args2 = after-declare .before .before .before .before .before .before in let after-if1 = after-args2 .before .before .before .before in
@@ -108,7 +108,7 @@ locals-μ-loop source s₀ from end text₀ here at₀ r₀ s text at r = end - 
 pub locals-ok : {M : Type 1} (t : ℕ) → cycle.Lts-locals.Closed (locals-cs t) (at locals t) (rank locals .post) M
 locals-ok t =
     cycle.Lts-locals.spec (locals-cs t) (at locals t) (rank locals .post) locals-Inv-loop locals-μ-loop (λ c. search (needs, locals-begin))
-    (λ c. omega arith) (λ c κs. search needs) (λ c. omega (arith, c .entry .ensures .1)) (λ c κs. search needs)
+    (λ c. omega arith) (λ c κs. omega arith) (λ c. omega (arith, c .entry .ensures .1)) (λ c κs. omega arith)
     -- local-requires
     (λ c κs. let after-set-at = c .before .before .before in let after-entry = after-set-at .before in
     let after-loop-test = after-entry .before .before in let after-loop = after-loop-test .before in
@@ -121,9 +121,9 @@ locals-ok t =
     -- loop-again
     (λ c. let after-local = c .before .before .before .before in let after-set-at = after-local .before .before .before .before in
     let after-entry = after-set-at .before in let after-loop-test = after-entry .before .before in let after-loop = after-loop-test .before in (
-      cc,
-      cc,
+      omega arith,
+      omega arith,
       λ y. locals-next _ _ (after-loop-test .loop-test .taken) (after-entry .entry .ensures .0) refl (local-gave-at
           (after-set-at .set-at .ensures) (after-local .local .ensures)) y (after-loop .loop .inv .2 y),
     ))
-    (λ c. search needs) (λ c. search needs) (λ c. search locals-end)
+    (λ c. omega arith) (λ c. omega arith) (λ c. search locals-end)

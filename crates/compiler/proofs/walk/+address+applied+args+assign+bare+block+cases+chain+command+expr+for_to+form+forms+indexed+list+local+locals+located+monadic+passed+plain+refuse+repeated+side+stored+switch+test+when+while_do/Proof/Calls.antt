@@ -36,15 +36,15 @@ applied-few t c =
 
 pub applied-ok : {M : Type 1} (t : ℕ) → cycle.Lts-applied.Closed (applied-cs t) (at applied t) (rank applied .post) M
 applied-ok t =
-    cycle.Lts-applied.spec (applied-cs t) (at applied t) (rank applied .post) (λ c κs. search (needs, primary-part)) (λ c. search needs)
-    (λ c. search needs) (λ c. search primary-gave) (λ c κs. search needs) (λ c κs. search needs) (λ c κs. search needs) (λ c κs. search needs)
-    (λ c κs. search needs)
+    cycle.Lts-applied.spec (applied-cs t) (at applied t) (rank applied .post) (λ c κs. search (needs, primary-part)) (λ c. omega arith)
+    (λ c. omega arith) (λ c. search primary-gave) (λ c κs. omega arith) (λ c κs. omega arith) (λ c κs. omega arith) (λ c κs. omega arith)
+    (λ c κs. omega arith)
     (λ c κs. let start = applied-start t (search) in let r = applied-read t (search) in both (omega (arith, start .pre .0)) (search (index-left r)))
     -- indexed-requires
     (λ c κs. let start = applied-start t (search) in
     both (omega (arith, start .pre .0)) (index-right (applied-read t (search)) (search) _
     (c .before .before .before .before .before .before .applied .ensures) (start .pre .1)))
-    (λ c. search needs) (λ c. search needs)
+    (λ c. omega arith) (λ c. omega arith)
     -- returns-2
     (λ c. let after-indexed = c .before .before .before .before in
     index-gave (applied-read t (search)) (search) _ (after-indexed .before .before .before .before .before .before .before .applied .ensures)
@@ -58,7 +58,7 @@ applied-ok t =
     let after-passed = c .before .before .before .before .before .before .before in
     both (omega (arith, start .pre .0, left-at))
     (suffixes-ready-at (c .raised .ensures) (call-callee r (search) _ (search) (after-passed .passed .ensures) (start .pre .1))))
-    (λ c κs. search needs) (λ c. search needs) (λ c. search needs)
+    (λ c κs. omega arith) (λ c. omega arith) (λ c. omega arith)
     -- returns-3
     (λ c. let after-applied2 = c .before .before .before .before .before .before .before .before in let after-raised = after-applied2 .before in
     let after-passed = after-raised .before .before .before .before .before .before .before in
@@ -77,7 +77,7 @@ args-Inv-loop source s₀ from end text₀ here at₀ k₀ r₀ s text at k r =
 pub args-ok : {M : Type 1} (t : ℕ) → cycle.Lts-args.Closed (args-cs t) (at args t) (rank args .post) M
 args-ok t =
     cycle.Lts-args.spec (args-cs t) (at args t) (rank args .post) args-Inv-loop (λ source s₀ from end text₀ here at₀ k₀ r₀ s text at k r. end - at)
-    (λ c. search (needs, args-begin)) (λ c. omega arith) (λ c κs. search needs) (λ c. omega (arith, c .entry .ensures .1))
+    (λ c. search (needs, args-begin)) (λ c. omega arith) (λ c κs. omega arith) (λ c. omega (arith, c .entry .ensures .1))
     (λ c κs. let height = c .before .before .before .before .before .loop .inv .2
     (c .before .before .before .before .before .before .before .before .before .pre .1) .height in omega arith)
     -- expr-requires
@@ -109,7 +109,7 @@ args-ok t =
       λ y. args-next _ _ _ (after-loop-test .loop-test .taken) (after-entry .entry .ensures .0) refl
           (gave-at _ (after-raised .raised .ensures) (after-expr .expr .ensures)) (c .before .before .keep .ensures) y (after-loop .loop .inv .2 y),
     ))
-    (λ c. search needs) (λ c. search needs) (λ c. args-end _ _ _ (c .loop-test .left) (c .before .loop .inv .2))
+    (λ c. omega arith) (λ c. omega arith) (λ c. args-end _ _ _ (c .loop-test .left) (c .before .loop .inv .2))
 
 abbrev indexed-cs : ℕ → cycle.Lts-indexed.Claims
 indexed-cs t =
@@ -122,15 +122,15 @@ indexed-ok t =
     (λ c κs. (
       omega (arith, c .before .before .before .before .before .before .before .before .before .before .pre .0, left-at),
       search (ready-at, with-state),
-    )) (λ c κs. search needs) (λ c. search needs) (λ c. search needs) (λ c. search (indexed-gave, gave-at))
+    )) (λ c κs. omega arith) (λ c. omega arith) (λ c. omega arith) (λ c. search (indexed-gave, gave-at))
 
 abbrev passed-cs : ℕ → cycle.Lts-passed.Claims
 passed-cs t = three (steps.reached.Reads.Asked, steps.reached.Reads.Learnt) (steps.raised.Reads.Asked, steps.raised.Reads.Learnt) (calls args t)
 
 pub passed-ok : {M : Type 1} (t : ℕ) → cycle.Lts-passed.Closed (passed-cs t) (at passed t) (rank passed .post) M
 passed-ok t =
-    cycle.Lts-passed.spec (passed-cs t) (at passed t) (rank passed .post) (λ c. omega arith) (λ c κs. search needs) (λ c κs. omega arith)
+    cycle.Lts-passed.spec (passed-cs t) (at passed t) (rank passed .post) (λ c. omega arith) (λ c κs. omega arith) (λ c κs. omega arith)
     -- args-requires
     (λ c κs. let after-reached = c .before .before .before in let start = after-reached .before .before .before .before .before in
     both (omega (arith, left-at)) (args-ready-at (c .raised .ensures) (args-with (after-reached .reached .ensures .by [] .label) (start .pre .1))))
-    (λ c. search needs) (λ c. search needs) (λ c. search (passed-gave, args-gave-at))
+    (λ c. omega arith) (λ c. omega arith) (λ c. search (passed-gave, args-gave-at))

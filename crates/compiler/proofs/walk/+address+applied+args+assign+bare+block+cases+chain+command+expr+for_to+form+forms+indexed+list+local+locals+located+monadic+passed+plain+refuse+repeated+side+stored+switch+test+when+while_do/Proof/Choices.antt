@@ -18,8 +18,8 @@ when-cs t =
 
 pub when-ok : {M : Type 1} (t : ℕ) → cycle.Lts-when.Closed (when-cs t) (at when t) (rank when .post) M
 when-ok t =
-    cycle.Lts-when.spec (when-cs t) (at when t) (rank when .post) (λ c κs. search needs) (λ c κs. search needs) (λ c κs. omega arith)
-    (λ c κs. search (needs, guard-test)) (λ c κs. search needs) (λ c κs. search needs)
+    cycle.Lts-when.spec (when-cs t) (at when t) (rank when .post) (λ c κs. omega arith) (λ c κs. omega arith) (λ c κs. omega arith)
+    (λ c κs. search (needs, guard-test)) (λ c κs. omega arith) (λ c κs. omega arith)
     -- command-requires
     (λ c κs. let after-put-to = c .before .before .before .before in
     let after-expr = after-put-to .before .before .before .before .before .before .before in let after-fresh = after-expr .before .before .before in
@@ -27,7 +27,7 @@ when-ok t =
     let start = after-node-at .before .before .before .before .before in
     both (omega (arith, start .pre .0)) (guard-body _ _ (after-node-at .node-at .ensures) (after-node-at2 .node-at2 .ensures)
     (start .pre .1 .1 .word) _ (after-fresh .fresh .ensures) (after-expr .expr .ensures) (after-put-to .put-to .ensures) (start .pre .1 .0)))
-    (λ c κs. search needs) (λ c. search needs) (λ c. search needs)
+    (λ c κs. omega arith) (λ c. omega arith) (λ c. omega arith)
     -- returns
     (λ c. let after-command = c .before .before .before .before .before .before .before .before in
     let after-put-to = after-command .before .before .before .before .before in let after-jump-unless = after-put-to .before in
@@ -45,14 +45,14 @@ test-cs t =
 
 pub test-ok : {M : Type 1} (t : ℕ) → cycle.Lts-test.Closed (test-cs t) (at test t) (rank test .post) M
 test-ok t =
-    cycle.Lts-test.spec (test-cs t) (at test t) (rank test .post) (λ c κs. search needs) (λ c κs. search needs) (λ c κs. search needs)
+    cycle.Lts-test.spec (test-cs t) (at test t) (rank test .post) (λ c κs. omega arith) (λ c κs. omega arith) (λ c κs. omega arith)
     (λ c κs. omega arith)
     -- expr-requires
     (λ c κs. let after-node-at3 = c .before .before .before in let after-node-at2 = after-node-at3 .before .before in
     let after-node-at = after-node-at2 .before .before in let start = after-node-at .before .before .before .before .before in
     both (omega (arith, start .pre .0)) (test-first _ _ _ (after-node-at .node-at .ensures) (after-node-at2 .node-at2 .ensures)
     (after-node-at3 .node-at3 .ensures) (start .pre .1 .1 .is) (c .before .before .fresh .ensures) (start .pre .1 .0)))
-    (λ c κs. search needs)
+    (λ c κs. omega arith)
     -- command-requires
     (λ c κs. let after-put-to = c .before .before .before .before in let after-expr = after-put-to .before .before .before .before .before .before in
     let after-fresh = after-expr .before .before .before in let after-node-at3 = after-fresh .before in
@@ -65,7 +65,7 @@ test-ok t =
     (λ c. let start = c .before .before .before .before .before .before .before .before .before .before .before .before .before .before .before
     .before .before .before .before .before .before .before .before .before .before .before .before .before .before .before in
     omega (arith, start .pre .1 .0 .label))
-    (λ c κs. search needs) (λ c κs. search needs)
+    (λ c κs. omega arith) (λ c κs. omega arith)
     -- command-requires-2
     (λ c κs. let after-mark = c .before .before .before .before in let after-put-to2 = after-mark .before .before .before .before in
     let after-command = after-put-to2 .before .before .before .before .before .before .before in
@@ -81,7 +81,7 @@ test-ok t =
     (λ c. let start = c .before .before .before .before .before .before .before .before .before .before .before .before .before .before .before
     .before .before .before .before .before .before .before .before .before .before .before .before .before .before .before .before .before .before
     .before .before .before .before .before .before .before .before .before .before .before .before .before in omega (arith, start .pre .1 .0 .label))
-    (λ c κs. search needs)
+    (λ c κs. omega arith)
     -- same-length
     (λ c. let after-command2 = c .before .before .before .before .before .before .before .before .before in
     let after-command = after-command2 .before .before .before .before .before .before .before .before .before .before .before .before .before .before
@@ -126,7 +126,7 @@ switch-fit t c =
 
 pub switch-ok : {M : Type 1} (t : ℕ) → cycle.Lts-switch.Closed (switch-cs t) (at switch t) (rank switch .post) M
 switch-ok t =
-    cycle.Lts-switch.spec (switch-cs t) (at switch t) (rank switch .post) (λ c κs. search needs) (λ c. omega arith)
+    cycle.Lts-switch.spec (switch-cs t) (at switch t) (rank switch .post) (λ c κs. omega arith) (λ c. omega arith)
     (λ c κs. search (needs, switch-value)) (λ c κs. omega arith) (λ c. omega (arith, switch-fit t c)) (λ c κs. omega (arith, switch-fit t c))
     -- doubled-requires
     (λ c κs. let after-node-at = c .before .before .before .before .before .before .before .before .before .before .before .before in
@@ -138,7 +138,7 @@ switch-ok t =
     let after-node-at = after-count .before .before .before .before .before .before .before .before .before .before in
     let start = after-node-at .before .before .before .before .before in let f = switch-fit t after-count in
     (omega (arith, after-node-at .node-at .ensures .inner, start .pre .1 .0 .small), omega arith, omega arith))
-    (λ c κs. search needs) (λ c. omega (arith, switch-fit t (search)))
+    (λ c κs. omega arith) (λ c. omega (arith, switch-fit t (search)))
     -- cases-requires
     (λ c κs. let after-table = c .before .before .before .before .before .before in let after-doubled = after-table .before .before .before .before in
     let after-fresh = after-doubled .before .before in let after-count = after-fresh .before in
@@ -148,7 +148,7 @@ switch-ok t =
     (switch-cases _ (after-node-at .node-at .ensures) (start .pre .1 .1 .is) refl _ (after-expr .expr .ensures) (after-count .count .ensures)
     (after-fresh .fresh .ensures) (after-doubled .doubled .ensures) refl (after-table .table .ensures) (start .pre .1 .0))
     (omega (arith, switch-fit t after-count))))
-    (λ c κs. search needs)
+    (λ c κs. omega arith)
     -- same-length
     (λ c. c .before .before .before .before .before .before .before .before .cases .kept .1 .0
     ∙ c .before .before .before .before .before .before .before .before .before .before .before .before .before .before .before .before .before
@@ -181,7 +181,7 @@ pub cases-ok : {M : Type 1} (t : ℕ) → cycle.Lts-cases.Closed (cases-cs t) (a
 cases-ok t =
     cycle.Lts-cases.spec (cases-cs t) (at cases t) (rank cases .post) cases-Inv-loop
     (λ source s₀ from end text₀ here ways first at₀ k₀ r₀ s text at k r. end - at) (λ c. search (needs, cases-begin)) (λ c. omega arith)
-    (λ c κs. search needs) (λ c. omega arith) (λ c. omega arith) (λ c κs. search needs)
+    (λ c κs. omega arith) (λ c. omega arith) (λ c. omega arith) (λ c κs. omega arith)
     -- bare-requires
     (λ c κs. let after-mark = c .before .before .before .before in let after-entry = after-mark .before .before in
     let after-loop-test = after-entry .before .before in let after-loop = after-loop-test .before in
@@ -197,8 +197,8 @@ cases-ok t =
     (λ c. let after-bare = c .before .before .before .before in let after-mark = after-bare .before .before .before .before .before in
     let after-entry = after-mark .before .before in let after-loop-test = after-entry .before .before in
     let after-loop = after-loop-test .before in (
-      cc,
-      cc,
+      omega arith,
+      omega arith,
       omega (arith, after-loop .loop .inv .2),
       λ y. cases-next _ _ _ _ _ (after-loop-test .loop-test .taken)
           (after-entry .entry .ensures .0) refl (after-mark .mark .ensures) (after-bare .bare .ensures) y (after-loop .loop .inv .3 y),

@@ -24,9 +24,9 @@ expr-cs t =
 
 pub expr-ok : {M : Type 1} (t : ℕ) → cycle.Lts-expr.Closed (expr-cs t) (at expr t) (rank expr .post) M
 expr-ok t =
-    cycle.Lts-expr.spec (expr-cs t) (at expr t) (rank expr .post) (λ c κs. search needs) (λ c κs. search needs) (λ c. omega arith)
-    (λ c κs. search needs) (λ c κs. omega arith) (λ c κs. search needs) (λ c κs. search needs)
-    (λ c κs. (omega (arith, left-at, some-left), search (ready-at, bracket-part))) (λ c κs. search needs) (λ c. omega arith)
+    cycle.Lts-expr.spec (expr-cs t) (at expr t) (rank expr .post) (λ c κs. omega arith) (λ c κs. omega arith) (λ c. omega arith)
+    (λ c κs. omega arith) (λ c κs. omega arith) (λ c κs. omega arith) (λ c κs. omega arith)
+    (λ c κs. (omega (arith, left-at, some-left), search (ready-at, bracket-part))) (λ c κs. omega arith) (λ c. omega arith)
     (λ c κs. both (omega (arith, c .before .before .before .before .before .before .before .before .before .before .pre .0, left-at, some-left))
     (search (ready-at, dyadic-left)))
     -- chain-requires
@@ -37,18 +37,18 @@ expr-ok t =
     (chain-ready-at (after-inside2 .inside2 .ensures)
     (dyadic-rest _ (after-node-at .node-at .ensures) (after-match .match .keys5) refl _
     (gave-at _ (after-inside2 .inside2 .ensures) (after-expr2 .expr2 .ensures)) (start .pre .1))))
-    (λ c κs. omega arith) (λ c κs. search needs) (λ c κs. search needs)
+    (λ c κs. omega arith) (λ c κs. omega arith) (λ c κs. omega arith)
     (λ c κs. both (let falls = c .before .before .before .before .before .before .before .before .before .before .before .pre .0 in
     omega (arith, left-at, some-left)) (search (ready-at, valof-part)))
-    (λ c κs. search needs) (λ c κs. search needs) (λ c κs. (omega (arith, left-at, some-left), search (ready-at, monadic-part))) (λ c. omega arith)
-    (λ c κs. search needs)
+    (λ c κs. omega arith) (λ c κs. omega arith) (λ c κs. (omega (arith, left-at, some-left), search (ready-at, monadic-part))) (λ c. omega arith)
+    (λ c κs. omega arith)
     -- applied-requires
     (λ c κs. both (let falls = c .before .before .before .before .before .before .before .before .before .before .pre .0 in
     let small = c .before .before .before .before .before .before .before .before .before .before .pre .1 .small in
     omega (arith, left-at, some-left)) (search (suffixes-ready-at, suffixed-part)))
-    (λ c. search needs) (λ c. search needs) (λ c. search number-gave) (λ c. search needs) (λ c. search needs) (λ c. search string-gave)
-    (λ c. search needs) (λ c. search needs) (λ c. search name-gave) (λ c. search needs) (λ c. search needs) (λ c. search (bracket-gave, gave-at))
-    (λ c. search needs) (λ c. search needs)
+    (λ c. omega arith) (λ c. omega arith) (λ c. search number-gave) (λ c. omega arith) (λ c. omega arith) (λ c. search string-gave)
+    (λ c. omega arith) (λ c. omega arith) (λ c. search name-gave) (λ c. omega arith) (λ c. omega arith) (λ c. search (bracket-gave, gave-at))
+    (λ c. omega arith) (λ c. omega arith)
     -- returns-5
     (λ c. let after-chain = c .before .before .before .before in
     let after-expr2 = after-chain .before .before .before .before .before .before .before in
@@ -57,8 +57,8 @@ expr-ok t =
     dyadic-gave _ (after-node-at .node-at .ensures) (after-match .match .keys5) refl _
     (gave-at _ (after-inside2 .inside2 .ensures) (after-expr2 .expr2 .ensures))
     (chain-gave-at (after-inside2 .inside2 .ensures) (after-chain .chain .ensures)))
-    (λ c. search needs) (λ c. search needs) (λ c. search (valof-gave, gave-c-at)) (λ c. search needs) (λ c. search needs)
-    (λ c. search (monadic-gave, gave-monadic-at)) (λ c. search needs) (λ c. search needs)
+    (λ c. omega arith) (λ c. omega arith) (λ c. search (valof-gave, gave-c-at)) (λ c. omega arith) (λ c. omega arith)
+    (λ c. search (monadic-gave, gave-monadic-at)) (λ c. omega arith) (λ c. omega arith)
     -- returns-8
     (λ c. let after-applied = c .before .before .before .before in let after-inside5 = after-applied .before in
     let after-match = after-inside5 .before .before .before .before in let after-node-at = after-match .before in
@@ -78,7 +78,7 @@ chain-Inv-loop source s₀ from end text₀ here at₀ r₀ s text at r =
 pub chain-ok : {M : Type 1} (t : ℕ) → cycle.Lts-chain.Closed (chain-cs t) (at chain t) (rank chain .post) M
 chain-ok t =
     cycle.Lts-chain.spec (chain-cs t) (at chain t) (rank chain .post) chain-Inv-loop (λ source s₀ from end text₀ here at₀ r₀ s text at r. end - at)
-    (λ c. search (needs, chain-begin)) (λ c κs. search needs) (λ c. omega arith) (λ c κs. search needs) (λ c. omega arith)
+    (λ c. search (needs, chain-begin)) (λ c κs. omega arith) (λ c. omega arith) (λ c κs. omega arith) (λ c. omega arith)
     (λ c. omega (arith, c .before .before .entry .ensures .1)) (λ c κs. omega arith) (λ c κs. omega arith)
     -- expr-requires
     (λ c κs. let after-keep = c .before .before .before .before .before in let after-entry2 = after-keep .before .before in
@@ -87,7 +87,7 @@ chain-ok t =
     both (omega (arith, start .pre .0, left-at))
     (ready-at (c .raised .ensures) (chain-part _ _ (after-loop-test .loop-test .taken) (after-entry .entry .ensures .0)
     (after-entry2 .entry2 .ensures .0) refl (after-keep .keep .ensures .label) (start .pre .1) (after-loop .loop .inv .2 (start .pre .1)))))
-    (λ c κs. search needs)
+    (λ c κs. omega arith)
     -- operate-requires
     (λ c κs. let start = c .before .before .before .before .before .before .before .before .before .before .before .before .before .before .before
     .before .before .before .before .before .before .before .before in omega (arith, start .pre .1 .ready .height))
@@ -107,7 +107,7 @@ chain-ok t =
           (gave-at _ (after-raised .raised .ensures) (after-expr .expr .ensures)) (c .before .before .operate .ensures) y
           (after-loop .loop .inv .2 y),
     ))
-    (λ c. search needs) (λ c. search needs) (λ c. search chain-end)
+    (λ c. omega arith) (λ c. omega arith) (λ c. search chain-end)
 
 abbrev monadic-cs : ℕ → cycle.Lts-monadic.Claims
 monadic-cs t =
@@ -116,8 +116,8 @@ monadic-cs t =
 pub monadic-ok : {M : Type 1} (t : ℕ) → cycle.Lts-monadic.Closed (monadic-cs t) (at monadic t) (rank monadic .post) M
 unfolding exprCode ofExpr exprLabels monadicAct
 monadic-ok t =
-    cycle.Lts-monadic.spec (monadic-cs t) (at monadic t) (rank monadic .post) (λ c κs. search needs) (λ c κs. search needs) (λ c. search needs)
-    (λ c. search needs) (λ c. search monadic-address) (λ c κs. search needs) (λ c κs. search needs) (λ c κs. search needs) (λ c κs. search needs)
-    (λ c. search needs) (λ c. search needs) (λ c. search (monadic-acts 49 1 refl (λ x E n. refl))) (λ c. search needs) (λ c. search needs)
-    (λ c. search (monadic-acts 36 2 refl (λ x E n. refl))) (λ c. search needs) (λ c. search needs)
-    (λ c. search (monadic-acts 11 3 refl (λ x E n. refl))) (λ c. search needs) (λ c. search needs) (λ c. search monadic-other)
+    cycle.Lts-monadic.spec (monadic-cs t) (at monadic t) (rank monadic .post) (λ c κs. omega arith) (λ c κs. search needs) (λ c. omega arith)
+    (λ c. omega arith) (λ c. search monadic-address) (λ c κs. search needs) (λ c κs. omega arith) (λ c κs. omega arith) (λ c κs. omega arith)
+    (λ c. omega arith) (λ c. omega arith) (λ c. search (monadic-acts 49 1 refl (λ x E n. refl))) (λ c. omega arith) (λ c. omega arith)
+    (λ c. search (monadic-acts 36 2 refl (λ x E n. refl))) (λ c. omega arith) (λ c. omega arith)
+    (λ c. search (monadic-acts 11 3 refl (λ x E n. refl))) (λ c. omega arith) (λ c. omega arith) (λ c. search monadic-other)

@@ -20,19 +20,19 @@ while-do-cs t =
 
 pub while-do-ok : {M : Type 1} (t : ℕ) → cycle.Lts-while_do.Closed (while-do-cs t) (at while-do t) (rank while-do .post) M
 while-do-ok t =
-    cycle.Lts-while_do.spec (while-do-cs t) (at while-do t) (rank while-do .post) (λ c κs. search needs) (λ c κs. search needs) (λ c κs. omega arith)
-    (λ c κs. search needs)
+    cycle.Lts-while_do.spec (while-do-cs t) (at while-do t) (rank while-do .post) (λ c κs. omega arith) (λ c κs. omega arith) (λ c κs. omega arith)
+    (λ c κs. omega arith)
     -- expr-requires
     (λ c κs. let after-mark = c .before .before .before .before in let after-fresh = after-mark .before .before in
     let after-node-at2 = after-fresh .before in let after-node-at = after-node-at2 .before .before in
     let start = after-node-at .before .before .before .before .before in
     both (omega (arith, start .pre .0)) (while-test _ _ (after-node-at .node-at .ensures) (after-node-at2 .node-at2 .ensures) (start .pre .1 .1 .word)
     (after-fresh .fresh .ensures) (after-mark .mark .ensures) (start .pre .1 .0)))
-    (λ c κs. search needs) (λ c. omega arith) (λ c κs. search needs)
+    (λ c κs. omega arith) (λ c. omega arith) (λ c κs. omega arith)
     -- add-in-loop
     (λ c. let start = c .before .before .before .before .before .before .before .before .before .before .before .before .before .before .before
     .before .before .before .before .before .before .before .before .before .before .before .before .before in omega (arith, start .pre .1 .0 .label))
-    (λ c κs. search needs)
+    (λ c κs. omega arith)
     -- command-requires
     (λ c κs. let after-put-to = c .before .before .before .before .before .before in
     let after-expr = after-put-to .before .before .before .before .before .before .before .before in
@@ -41,12 +41,12 @@ while-do-ok t =
     let start = after-node-at .before .before .before .before .before in
     both (omega (arith, start .pre .0)) (while-body _ _ (after-node-at .node-at .ensures) (after-node-at2 .node-at2 .ensures) (start .pre .1 .1 .word)
     (after-fresh .fresh .ensures) (after-mark .mark .ensures) _ (after-expr .expr .ensures) (after-put-to .put-to .ensures) (start .pre .1 .0)))
-    (λ c κs. search needs)
+    (λ c κs. omega arith)
     -- add-mark
     (λ c. let start = c .before .before .before .before .before .before .before .before .before .before .before .before .before .before .before
     .before .before .before .before .before .before .before .before .before .before .before .before .before .before .before .before .before .before
     .before .before .before .before .before .before .before in omega (arith, start .pre .1 .0 .label))
-    (λ c κs. search needs)
+    (λ c κs. omega arith)
     -- same-length
     (λ c. let after-command = c .before .before .before .before .before .before .before .before .before .before .before .before .before in
     let after-expr = after-command .before .before .before .before .before .before .before .before .before .before .before .before .before .before
@@ -101,8 +101,8 @@ for-to-room t c =
 
 pub for-to-ok : {M : Type 1} (t : ℕ) → cycle.Lts-for_to.Closed (for-to-cs t) (at for-to t) (rank for-to .post) M
 for-to-ok t =
-    cycle.Lts-for_to.spec (for-to-cs t) (at for-to t) (rank for-to .post) (λ c κs. search needs) (λ c κs. search needs) (λ c κs. search needs)
-    (λ c κs. search needs) (λ c κs. omega arith)
+    cycle.Lts-for_to.spec (for-to-cs t) (at for-to t) (rank for-to .post) (λ c κs. omega arith) (λ c κs. omega arith) (λ c κs. omega arith)
+    (λ c κs. omega arith) (λ c κs. omega arith)
     -- expr-requires
     (λ c κs. let after-node-at3 = c .before .before .before in let after-minus = after-node-at3 .before .before in
     let after-node-at2 = after-minus .before in let after-node-at = after-node-at2 .before .before in
@@ -170,9 +170,9 @@ for-to-ok t =
     (after-blame .blame .ensures) (after-for-test .for-test .ensures) (after-push .push .ensures) (start .pre .1 .0) in
     (omega (arith, for-to-room t h), omega arith, omega arith, f))
     (λ c. let h : ForToTested t = search in let y = for-to-start t h .pre .1 .0 in omega (arith, for-to-room t h))
-    (λ c. let y = for-to-start t (search) .pre .1 .0 in omega arith) (λ c κs. search needs)
+    (λ c. let y = for-to-start t (search) .pre .1 .0 in omega arith) (λ c κs. omega arith)
     (λ c. let y = for-to-start t (search) .pre .1 .0 in omega arith) (λ c. let y = for-to-start t (search) .pre .1 .0 in omega arith)
-    (λ c κs. search needs)
+    (λ c κs. omega arith)
     -- command-requires
     (λ c κs. let after-set-at = c .before .before .before .before .before in
     let after-push-name = after-set-at .before .before .before .before .before in
@@ -236,9 +236,9 @@ form-cs t = three (steps.put_to.Reads.Asked, steps.put_to.Reads.Learnt) (calls e
 
 pub form-ok : {M : Type 1} (t : ℕ) → cycle.Lts-form.Closed (form-cs t) (at form t) (rank form .post) M
 form-ok t =
-    cycle.Lts-form.spec (form-cs t) (at form t) (rank form .post) (λ c κs. search needs) (λ c. search needs) (λ c. search form-alone)
-    (λ c κs. (omega arith, c .before .before .before .before .before .before .pre .1 .on (c .before .before .if1 .left))) (λ c κs. search needs)
-    (λ c κs. search needs) (λ c. search needs) (λ c. search needs) (λ c. search form-tested)
+    cycle.Lts-form.spec (form-cs t) (at form t) (rank form .post) (λ c κs. omega arith) (λ c. omega arith) (λ c. search form-alone)
+    (λ c κs. (omega arith, c .before .before .before .before .before .before .pre .1 .on (c .before .before .if1 .left))) (λ c κs. omega arith)
+    (λ c κs. omega arith) (λ c. omega arith) (λ c. omega arith) (λ c. search form-tested)
 
 abbrev forms-cs : ℕ → cycle.Lts-forms.Claims
 forms-cs t =
@@ -253,8 +253,8 @@ forms-Inv-loop source s₀ from end text₀ here innermost at₀ own₀ r₀ s t
 pub forms-ok : {M : Type 1} (t : ℕ) → cycle.Lts-forms.Closed (forms-cs t) (at forms t) (rank forms .post) M
 forms-ok t =
     cycle.Lts-forms.spec (forms-cs t) (at forms t) (rank forms .post) forms-Inv-loop
-    (λ source s₀ from end text₀ here innermost at₀ own₀ r₀ s text at own r. end - at) (λ c. search (needs, forms-begin)) (λ c κs. search needs)
-    (λ c. omega arith) (λ c κs. search needs) (λ c. omega arith) (λ c. omega arith) (λ c. omega arith) (λ c κs. search needs)
+    (λ source s₀ from end text₀ here innermost at₀ own₀ r₀ s text at own r. end - at) (λ c. search (needs, forms-begin)) (λ c κs. omega arith)
+    (λ c. omega arith) (λ c κs. omega arith) (λ c. omega arith) (λ c. omega arith) (λ c. omega arith) (λ c κs. omega arith)
     -- form-requires
     (λ c κs. let after-mark = c .before .before .before .before in let after-entry2 = after-mark .before .before in
     let after-entry = after-entry2 .before .before in let after-loop-test = after-entry .before .before in let after-loop = after-loop-test .before in
@@ -264,7 +264,7 @@ forms-ok t =
     -- add-mark-2
     (λ c. let after-loop = c .before .before .before .before .before .before .before .before .before .before .before .before .before .before .before
     .before .before in let start = after-loop .before .before .before .before in omega (arith, after-loop .loop .inv .2, start .pre .1 .1))
-    (λ c κs. search needs) (λ c κs. search needs)
+    (λ c κs. omega arith) (λ c κs. omega arith)
     -- loop-less
     (λ c. let after-loop-test = c .before .before .before .before .before .before .before .before .before .before .before .before .before .before
     .before .before .before .before .before .before in omega (arith, after-loop-test .loop-test .taken))
@@ -297,10 +297,10 @@ repeated-fit t c =
 
 pub repeated-ok : {M : Type 1} (t : ℕ) → cycle.Lts-repeated.Closed (repeated-cs t) (at repeated t) (rank repeated .post) M
 repeated-ok t =
-    cycle.Lts-repeated.spec (repeated-cs t) (at repeated t) (rank repeated .post) (λ c κs. search needs) (λ c. omega arith) (λ c κs. omega arith)
-    (λ c. omega (arith, repeated-fit t c)) (λ c. omega (arith, repeated-fit t (search))) (λ c κs. search needs)
+    cycle.Lts-repeated.spec (repeated-cs t) (at repeated t) (rank repeated .post) (λ c κs. omega arith) (λ c. omega arith) (λ c κs. omega arith)
+    (λ c. omega (arith, repeated-fit t c)) (λ c. omega (arith, repeated-fit t (search))) (λ c κs. omega arith)
     (λ c. omega (arith, repeated-fit t (search))) (λ c κs. omega (arith, repeated-fit t (search))) (λ c κs. omega (arith, repeated-fit t (search)))
-    (λ c. omega (arith, repeated-fit t (search))) (λ c. omega (arith, repeated-fit t (search))) (λ c κs. search needs)
+    (λ c. omega (arith, repeated-fit t (search))) (λ c. omega (arith, repeated-fit t (search))) (λ c κs. omega arith)
     -- plain-requires
     (λ c κs. let after-tops = c .before .before .before .before .before in let after-fresh = after-tops .before .before in
     let after-count = after-fresh .before .before .before in let after-if1 = after-count .before .before .before in
@@ -317,7 +317,7 @@ repeated-ok t =
     (after-tops .tops .ensures) _ (start .args .ways) (after-minus .minus .ensures)
     (gave-u-at _ refl (after-in-loop .in-loop .ensures) (after-plain .plain .ensures)) (start .pre .1))
     (omega (arith, repeated-fit t after-count, after-minus .minus .ensures))))
-    (λ c. search needs) (λ c. search needs)
+    (λ c. omega arith) (λ c. omega arith)
     -- returns
     (λ c. let after-forms = c .before .before .before .before in
     let after-plain = after-forms .before .before .before .before .before .before .before in let after-in-loop = after-plain .before in
@@ -327,4 +327,4 @@ repeated-ok t =
     repeated-gave _ (after-node-at .node-at .ensures) (after-if1 .if1 .taken) refl (after-count .count .ensures) (after-fresh .fresh .ensures)
     (after-tops .tops .ensures) _ _ (after-minus .minus .ensures) (gave-u-at _ refl (after-in-loop .in-loop .ensures) (after-plain .plain .ensures))
     (after-forms .forms .ensures))
-    (λ c κs. search (needs, once-part)) (λ c. search needs) (λ c. search needs) (λ c. search once-gave)
+    (λ c κs. search (needs, once-part)) (λ c. omega arith) (λ c. omega arith) (λ c. search once-gave)

@@ -21,23 +21,23 @@ address-cs t =
 
 pub address-ok : {M : Type 1} (t : ℕ) → cycle.Lts-address.Closed (address-cs t) (at address t) (rank address .post) M
 address-ok t =
-    cycle.Lts-address.spec (address-cs t) (at address t) (rank address .post) (λ c κs. search needs) (λ c κs. search needs)
-    (λ c κs. (omega (arith, left-at, some-left), (search (ready-at, bracket-part), search needs))) (λ c κs. omega arith) (λ c κs. search needs)
-    (λ c κs. search needs) (λ c κs. search needs)
+    cycle.Lts-address.spec (address-cs t) (at address t) (rank address .post) (λ c κs. omega arith) (λ c κs. omega arith)
+    (λ c κs. (omega (arith, left-at, some-left), (search (ready-at, bracket-part), omega arith))) (λ c κs. omega arith) (λ c κs. omega arith)
+    (λ c κs. search needs) (λ c κs. omega arith)
     (λ c κs. both (let falls = c .before .before .before .before .before .before .before .before .before .before .before .pre .0 in
     omega (arith, left-at, some-left)) (search (ready-at, monadic-part)))
-    (λ c. search needs) (λ c. search needs) (λ c. search (address-pling, gave-at)) (λ c κs. search needs) (λ c κs. search needs) (λ c. search needs)
-    (λ c. search needs) (λ c. search (address-open, gave-address-at)) (λ c. search needs) (λ c. search needs) (λ c. search address-name)
-    (λ c. search needs) (λ c. search needs)
+    (λ c. omega arith) (λ c. omega arith) (λ c. search (address-pling, gave-at)) (λ c κs. search needs) (λ c κs. search needs) (λ c. omega arith)
+    (λ c. omega arith) (λ c. search (address-open, gave-address-at)) (λ c. omega arith) (λ c. omega arith) (λ c. search address-name)
+    (λ c. omega arith) (λ c. omega arith)
     (λ c. c .before .before .before .before .located .ensures
     (c .before .before .before .before .before .before .before .before .before .before .before .before .before .args .place))
-    (λ c. search needs) (λ c. search needs)
+    (λ c. omega arith) (λ c. omega arith)
     -- returns-5
     (λ c. let after-refuse = c .before .before .before .before in let after-if1 = after-refuse .before .before .before in
     let after-match = after-if1 .before .before in let after-node-at = after-match .before in
     address-refused _ _ _ (after-node-at .node-at .ensures) (omega (arith, after-match .match .keys4)) (λ e v. after-if1 .if1 .left v)
     (after-refuse .refuse .ensures))
-    (λ c. search needs) (λ c. search needs)
+    (λ c. omega arith) (λ c. omega arith)
     -- returns-6
     (λ c. let after-refuse2 = c .before .before .before .before in let after-match = after-refuse2 .before .before .before in
     let after-node-at = after-match .before in
@@ -53,8 +53,8 @@ located-cs t =
 
 pub located-ok : {M : Type 1} (t : ℕ) → cycle.Lts-located.Closed (located-cs t) (at located t) (rank located .post) M
 located-ok t =
-    cycle.Lts-located.spec (located-cs t) (at located t) (rank located .post) (λ c κs. search needs) (λ c κs. search needs) (λ c κs. search needs)
-    (λ c κs. search needs) (λ c κs. search needs) (λ c. omega arith)
+    cycle.Lts-located.spec (located-cs t) (at located t) (rank located .post) (λ c κs. omega arith) (λ c κs. omega arith) (λ c κs. omega arith)
+    (λ c κs. omega arith) (λ c κs. omega arith) (λ c. omega arith)
     -- applied-requires
     (λ c κs. let after-inside = c .before .before .before in let after-minus2 = after-inside .before in let after-entry = after-minus2 .before in
     let after-minus = after-entry .before .before in let after-node-at = after-minus .before in
@@ -81,7 +81,7 @@ located-ok t =
     (address-right _ (after-node-at .node-at .ensures) (start .pre .1 .1) refl (after-minus .minus .ensures) (after-entry .entry .ensures .0)
     (after-minus2 .minus2 .ensures) _ (suffixes-gave-at (after-inside .inside .ensures) (after-applied .applied .ensures)) (after-keep .keep .ensures)
     (start .pre .1 .0))))
-    (λ c κs. search needs)
+    (λ c κs. omega arith)
     -- same-length
     (λ c. c .before .before .before .before .before .before .before .before .expr .kept .1 .0
     ∙ c .before .before .before .before .before .before .before .before .before .before .before .before .before .before .before .before .before
@@ -108,8 +108,8 @@ refuse-cs t = (below expr t, rank expr .post, steps.wrong.Reads.Asked, steps.wro
 
 pub refuse-ok : {M : Type 1} (t : ℕ) → cycle.Lts-refuse.Closed (refuse-cs t) (at refuse t) (rank refuse .post) M
 refuse-ok t =
-    cycle.Lts-refuse.spec (refuse-cs t) (at refuse t) (rank refuse .post) (λ c κs. search needs) (λ c κs. search needs) (λ c. search needs)
-    (λ c. search needs) (λ c. search refuse-gave)
+    cycle.Lts-refuse.spec (refuse-cs t) (at refuse t) (rank refuse .post) (λ c κs. search needs) (λ c κs. omega arith) (λ c. omega arith)
+    (λ c. omega arith) (λ c. search refuse-gave)
 
 abbrev side-cs : ℕ → cycle.Lts-side.Claims
 side-cs t =
@@ -120,14 +120,14 @@ side-cs t =
 
 pub side-ok : {M : Type 1} (t : ℕ) → cycle.Lts-side.Closed (side-cs t) (at side t) (rank side .post) M
 side-ok t =
-    cycle.Lts-side.spec (side-cs t) (at side t) (rank side .post) (λ c κs. search needs) (λ c κs. search needs)
+    cycle.Lts-side.spec (side-cs t) (at side t) (rank side .post) (λ c κs. omega arith) (λ c κs. omega arith)
     -- side-requires
     (λ c κs. let after-match = c .before .before .before in let after-node-at = after-match .before in
     let start = after-node-at .before .before .before .before .before in
     both (omega (arith, left-at, some-left)) (both
     (ready-at (ap (raised 1) (c .inside .ensures)) (bracket-part _ (after-node-at .node-at .ensures) (after-match .match .keys1) (start .pre .1 .0)))
     (start .pre .1 .1)))
-    (λ c κs. omega arith) (λ c κs. search needs) (λ c κs. search needs) (λ c κs. omega arith) (λ c κs. search needs)
+    (λ c κs. omega arith) (λ c κs. omega arith) (λ c κs. search needs) (λ c κs. omega arith) (λ c κs. omega arith)
     -- raised-requires
     (λ c κs. let height = c .before .before .before .before .before .before .before .before .before .before .before .before .before .before .before
     .pre .1 .0 .height in let same-height = ap (λ (x : Here). x .height) (c .inside2 .ensures) in omega arith)
@@ -140,7 +140,7 @@ side-ok t =
     -- store-through-requires
     (λ c κs. let start = c .before .before .before .before .before .before .before .before .before .before .before .before .before .before .before
     .before .before .before .before .before .before .before in omega (arith, start .pre .1 .0 .height))
-    (λ c. search needs) (λ c. search needs)
+    (λ c. omega arith) (λ c. omega arith)
     -- returns
     (λ c. let after-expr = c .before .before .before .before .before .before .before .before in let after-raised = after-expr .before in
     let after-inside2 = after-raised .before in let after-keep = after-inside2 .before .before .before .before .before in
@@ -151,17 +151,17 @@ side-ok t =
     (λ c κs. omega arith)
     (λ c κs. both (omega (arith, c .before .before .before .before .before .before .before .before .before .before .before .pre .0, left-at))
     (search ready-at))
-    (λ c κs. omega arith) (λ c κs. (omega (arith, left-at), (search ready-at, search needs))) (λ c. search needs) (λ c. search needs)
-    (λ c. search (side-open, gave-side-at)) (λ c. search needs) (λ c. search needs) (λ c. search side-name) (λ c. search needs) (λ c. search needs)
+    (λ c κs. omega arith) (λ c κs. (omega (arith, left-at), (search ready-at, omega arith))) (λ c. omega arith) (λ c. omega arith)
+    (λ c. search (side-open, gave-side-at)) (λ c. omega arith) (λ c. omega arith) (λ c. search side-name) (λ c. omega arith) (λ c. omega arith)
     (λ c. c .before .before .before .before .stored .ensures
     (c .before .before .before .before .before .before .before .before .before .before .before .before .before .args .place))
-    (λ c. search needs) (λ c. search needs)
+    (λ c. omega arith) (λ c. omega arith)
     -- returns-5
     (λ c. let after-refuse = c .before .before .before .before in let after-raised2 = after-refuse .before in
     let after-if1 = after-raised2 .before .before .before in let after-match = after-if1 .before .before in let after-node-at = after-match .before in
     side-refused _ _ _ _ (after-node-at .node-at .ensures) (omega (arith, after-match .match .keys4)) (λ e v. after-if1 .if1 .left v)
     (gave-refused-at (after-raised2 .raised2 .ensures) (after-refuse .refuse .ensures)))
-    (λ c. search needs) (λ c. search needs)
+    (λ c. omega arith) (λ c. omega arith)
     -- returns-6
     (λ c. let after-refuse2 = c .before .before .before .before in let after-raised3 = after-refuse2 .before in
     let after-match = after-raised3 .before .before .before in let after-node-at = after-match .before in
@@ -177,8 +177,8 @@ stored-cs t =
 
 pub stored-ok : {M : Type 1} (t : ℕ) → cycle.Lts-stored.Closed (stored-cs t) (at stored t) (rank stored .post) M
 stored-ok t =
-    cycle.Lts-stored.spec (stored-cs t) (at stored t) (rank stored .post) (λ c κs. search needs) (λ c κs. search needs) (λ c κs. search needs)
-    (λ c κs. search needs) (λ c κs. search needs)
+    cycle.Lts-stored.spec (stored-cs t) (at stored t) (rank stored .post) (λ c κs. omega arith) (λ c κs. omega arith) (λ c κs. omega arith)
+    (λ c κs. omega arith) (λ c κs. omega arith)
     (λ c κs. let height = c .before .before .before .before .before .before .before .before .before .before .pre .1 .0 .height in
     let same-height = ap (λ (x : Here). x .height) (c .inside .ensures) in omega arith)
     (λ c κs. omega arith)
@@ -274,13 +274,13 @@ assign-low t c = let y = c .before .before .before .before .before .pre .1 in le
 pub assign-ok : {M : Type 1} (t : ℕ) → cycle.Lts-assign.Closed (assign-cs t) (at assign t) (rank assign .post) M
 assign-ok t =
     cycle.Lts-assign.spec (assign-cs t) (at assign t) (rank assign .post) assign-Inv-loop assign-μ-loop (λ c. search (needs, assign-begin))
-    (λ c. omega arith) (λ c κs. search needs) (λ c. omega (arith, c .entry .ensures .1))
+    (λ c. omega arith) (λ c κs. omega arith) (λ c. omega (arith, c .entry .ensures .1))
     -- expr-requires
     (λ c κs. let after-loop-test = c .before .before .before .before in let after-loop = after-loop-test .before in
     let start = after-loop .before .before .before .before in
     both (omega arith) (assign-right _ _ (after-loop-test .loop-test .taken) (c .before .before .entry .ensures .0) refl (start .pre .1)
     (after-loop .loop .inv .2 (start .pre .1))))
-    (λ c κs. search needs)
+    (λ c κs. omega arith)
     -- side-requires
     (λ c κs. let after-expr = c .before .before .before .before .before .before .before .before in
     let after-entry = after-expr .before .before .before in let after-loop-test = after-entry .before .before in
@@ -288,7 +288,7 @@ assign-ok t =
     both (omega (arith, start .pre .0)) (both
     (assign-left _ _ (after-loop-test .loop-test .taken) (after-entry .entry .ensures .0) refl (after-expr .expr .ensures) (start .pre .1)
     (after-loop .loop .inv .2 (start .pre .1))) (c .before .before .node-at .ensures .place-fits)))
-    (λ c. omega (arith, assign-low t (search))) (λ c κs. search needs) (λ c. omega (arith, assign-low t (search)))
+    (λ c. omega (arith, assign-low t (search))) (λ c κs. omega arith) (λ c. omega (arith, assign-low t (search)))
     -- loop-less
     (λ c. let after-loop-test = c .before .before .before .before .before .before .before .before .before .before .before .before .before .before
     .before .before .before .before .before .before in omega (arith, after-loop-test .loop-test .taken))
@@ -296,9 +296,9 @@ assign-ok t =
     (λ c. let after-side = c .before .before .before .before .before .before in let after-node-at = after-side .before .before .before in
     let after-expr = after-node-at .before .before .before .before .before .before in let after-entry = after-expr .before .before .before in
     let after-loop-test = after-entry .before .before in let after-loop = after-loop-test .before in (
-      cc,
-      cc,
+      omega arith,
+      omega arith,
       λ y. assign-next _ _ (after-loop-test .loop-test .taken) (after-entry .entry .ensures .0) refl (after-expr .expr .ensures) _
           (after-node-at .node-at .ensures) (after-side .side .ensures) (c .entry2 .ensures .0) refl y (after-loop .loop .inv .2 y),
     ))
-    (λ c. search needs) (λ c. search needs) (λ c. assign-end _ _ (c .loop-test .left) (c .before .loop .inv .2))
+    (λ c. omega arith) (λ c. omega arith) (λ c. assign-end _ _ (c .loop-test .left) (c .before .loop .inv .2))
