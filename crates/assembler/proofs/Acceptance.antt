@@ -39,8 +39,7 @@ proper-more : (memory : ℕ) (ls : List Label) (l : Label) → Proper memory ls 
     → Proper memory (ls ++ (l ∷ []))
 unfolding Proper defined
 proper-more memory [] l p d r a = (refl, r .0, r .1, a, tt)
-proper-more memory (m ∷ ls) l p d r a =
-    let n : (m .number ≡ l .number → ⊥) × (defined ls (l .number) ≡ false) = not-first (l .number) m ls d in
+proper-more memory (m ∷ ls) l p d r a = let n : (m .number ≡ l .number → ⊥) × (defined ls (l .number) ≡ false) = not-first (l .number) m ls d in
     (not-last (m .number) ls l (p .0) (λ e. n .0 (sym e)), p .1, p .2, p .3, proper-more memory ls l (p .4) (n .1) r a)
 
 not-there : (ls : List Label) (d : Label) (n j : ℕ) → j < length ls → defined ls n ≡ false → getD ls j d .number ≡ n → ⊥
@@ -61,8 +60,7 @@ module _ (memory room : ℕ) where
   noted-proper : (at : ℕ) (labels : List Label) (i : I.Item) → at ≤ memory → fault memory room at labels i ≡ 0 → Proper memory labels
       → Proper memory (noted at labels i)
   unfolding noted misplaced inRange
-  noted-proper at labels (I.label n) a f p =
-      proper-more memory labels (record { number = n; address = at }) p
+  noted-proper at labels (I.label n) a f p = proper-more memory labels (record { number = n; address = at }) p
       (label-placed memory room at labels n (no-fault-placed memory room at labels (I.label n) f) .0)
       (label-range n (no-fault-ranged memory room at labels (I.label n) f)) a
   noted-proper at labels (I.instruction f i b x) a e p = p
@@ -75,8 +73,7 @@ module _ (memory room : ℕ) where
       → lay memory room at labels items ≡ laid ls end → Proper memory ls
   unfolding lay
   laid-proper at labels [] {ls} a p h = let z : labels ≡ ls = cc in rw z at p
-  laid-proper at labels (q ∷ qs) a p h =
-      let f = laid-first memory room at labels q qs h in
+  laid-proper at labels (q ∷ qs) a p h = let f = laid-first memory room at labels q qs h in
       laid-proper (at + size (q .item)) (noted at labels (q .item)) qs (no-fault-fits memory room at labels (q .item) (f .0) a)
       (noted-proper at labels (q .item) a (f .0) p) (f .1)
 
@@ -95,10 +92,8 @@ length-filled labels at memory (p ∷ ps) =
 
 length-image : (memory : ℕ) (labels : List Label) (items : List I.Placed) (end : ℕ) → 416 ≤ memory → Ends memory 416 items end
     → length (image memory labels items end) ≡ memory
-length-image memory labels items end h e =
-    ap length (sym (image-is memory labels items end h e))
-    ∙ length-filled labels 416 (start ++ noGlobals ++ replicate (memory - 416) 0) items
-    ∙ length-fixed memory h
+length-image memory labels items end h e = ap length (sym (image-is memory labels items end h e))
+    ∙ length-filled labels 416 (start ++ noGlobals ++ replicate (memory - 416) 0) items ∙ length-fixed memory h
 
 -- ---- an accepted text
 
@@ -126,8 +121,7 @@ module _ (text : List ℕ) (memory room : ℕ) {end : ℕ} where
     ended-whole : (e : Ending) → onEnding text memory room e labels to (scan text .items) .answer ≡ Accepted end
         → (e ≡ whole) × (unknowns labels (scan text .items) ≡ []) × (to ≡ end)
     unfolding refuse
-    ended-whole whole h =
-        let k : (unknowns labels (scan text .items) ≡ []) × (to ≡ end) = known-all (unknowns labels (scan text .items)) h in
+    ended-whole whole h = let k : (unknowns labels (scan text .items) ≡ []) × (to ≡ end) = known-all (unknowns labels (scan text .items)) h in
         (refl, k .0, k .1)
     ended-whole (unreadable p) h = contradiction cc
 
@@ -158,8 +152,6 @@ module _ (text : List ℕ) (memory room : ℕ) {end : ℕ} where
 
   pub acceptance : assembled text memory room .answer ≡ Accepted end → Acceptance text memory room end
   unfolding assembled refuse
-  acceptance h =
-      by-cases (leb 512 memory && leb memory 32768)
-      (λ e. let b = both-true (leb 512 memory) (leb memory 32768) e in
+  acceptance h = by-cases (leb 512 memory && leb memory 32768) (λ e. let b = both-true (leb 512 memory) (leb memory 32768) e in
       by-layout (leb-true 512 memory (b .0)) (leb-true memory 32768 (b .1)) (rw e) (lay memory room 416 [] (scan text .items)) refl (rw e at h))
       (λ e. let y : Refused (refusal text 24 0) ≡ Accepted end = rw e at h in contradiction cc)

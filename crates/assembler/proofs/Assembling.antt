@@ -31,8 +31,7 @@ laid-was (unreadable p) (refused k q) h = contradiction cc
 
 module _ (text : List ℕ) (memory room number place : ℕ) where
   same-refusal : {n p : ℕ} → refused number place ≡ refused n p → refuse text memory room number place ≡ refuse text memory room n p
-  same-refusal {n} {p} h =
-      let y : number ≡ n = cc in
+  same-refusal {n} {p} h = let y : number ≡ n = cc in
       let z : place ≡ p = cc in
       rw (y, z)
 
@@ -48,11 +47,9 @@ module _ (text : List ℕ) (memory room number place : ℕ) where
 
 table-is : (count : ℕ) (table : List ℕ) → Table count table
     → records table ≡ records (take count table) ++ replicate (length table - length (records (take count table))) vacant
-table-is count table t =
-    let n : length (records (take count table)) ≡ count = count-records count table t in
+table-is count table t = let n : length (records (take count table)) ≡ count = count-records count table t in
     ap records (t .zeros) ∙ records-append (take count table) (replicate (length table - count) 0)
-    ∙ ap (λ (l : List Label). records (take count table) ++ l) (vacant-records (length table - count))
-    ∙ rw n refl
+    ∙ ap (λ (l : List Label). records (take count table) ++ l) (vacant-records (length table - count)) ∙ rw n refl
 
 -- ---- the passes' answers
 
@@ -104,15 +101,9 @@ module _ (text m₀ table : List ℕ) (s : Scan) {layout : Placing} {table₁ in
 
         pub gives-image : written ≡ W.Whole → Gives wanted (Accepted end) m₂ table₁
         unfolding accept
-        gives-image h =
-            let u : unknowns labels (s .items) ≡ [] = known-all _ (sym h ∙ w .answers) in
+        gives-image h = let u : unknowns labels (s .items) ≡ [] = known-all _ (sym h ∙ w .answers) in
             let i : m₂ ≡ image (length m₀) labels (s .items) end = w .writes h ∙ rw f (image-is (length m₀) labels (s .items) end b placed-ends) in
-            rw (laid-is .1, laid-is .0, u)
-            (record {
-              answers = refl;
-              fills = i;
-              tables = rw (← l .same) (table-is (l .count) table₁ (l .tabled));
-            })
+            rw (laid-is .1, laid-is .0, u) (record { answers = refl; fills = i; tables = rw (← l .same) (table-is (l .count) table₁ (l .tabled)) })
 
         unknown-first : (us : List ℕ) {place : ℕ} → W.Unknown place ≡ asWritten us → (v : List ℕ) × (us ≡ place ∷ v)
         unfolding asWritten
@@ -121,8 +112,7 @@ module _ (text m₀ table : List ℕ) (s : Scan) {layout : Placing} {table₁ in
 
         pub gives-unknown : {place : ℕ} {answer : Assembled} {m′ t′ : List ℕ} → written ≡ W.Unknown place
             → Gives (refuse text (length m₂) (length table₁) 22 place) answer m′ t′ → Gives wanted answer m′ t′
-        gives-unknown {place} h g =
-            let u : (v : List ℕ) × (unknowns labels (s .items) ≡ place ∷ v) = unknown-first _ (sym h ∙ w .answers) in
+        gives-unknown {place} h g = let u : (v : List ℕ) × (unknowns labels (s .items) ≡ place ∷ v) = unknown-first _ (sym h ∙ w .answers) in
             let n : length m₂ ≡ length m₀ = w .same ∙ length-start in
             rw (laid-is .1, laid-is .0, u .1) (rw (n, l .same) at g)
 

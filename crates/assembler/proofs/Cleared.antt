@@ -14,7 +14,6 @@ unfolding noGlobals
 fixed-zeros t = refl
 
 pub fixed-is : (m : List ℕ) → Zeros m → 416 ≤ length m → fixed m ≡ start ++ noGlobals ++ replicate (length m - 416) 0
-fixed-is m z h =
-    let n : 416 + (length m - 416) ≡ length m = omega arith in
+fixed-is m z h = let n : 416 + (length m - 416) ≡ length m = omega arith in
     let e : m ≡ replicate 416 0 ++ replicate (length m - 416) 0 = z ∙ sym (replicate-append-replicate 416 (length m - 416) 0 ∙ rw n) in
     ap fixed e ∙ fixed-zeros (replicate (length m - 416) 0)

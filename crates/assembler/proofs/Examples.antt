@@ -42,8 +42,7 @@ abbrev made : String → (from count : ℕ) → Made
 made text from count = record { text = text; from = from; count = count }
 
 abbrev made-table : Table Made (List ℕ)
-made-table =
-    made "$ LIP2 K4 A-1 C\"HELLO\" Z" 416 8 gives (6146 ∷ 49156 ∷ 16896 ∷ 65535 ∷ 1352 ∷ 17740 ∷ 19535 ∷ 0 ∷ []) ∷
+made-table = made "$ LIP2 K4 A-1 C\"HELLO\" Z" 416 8 gives (6146 ∷ 49156 ∷ 16896 ∷ 65535 ∷ 1352 ∷ 17740 ∷ 19535 ∷ 0 ∷ []) ∷
     -- words 0 to 7, and globals 13 and 14
     made "$ Z" 0 9 gives (5121 ∷ 49154 ∷ 57366 ∷ 57371 ∷ 57348 ∷ 6146 ∷ 57372 ∷ 57348 ∷ 0 ∷ []) ∷
     made "$ Z" 28 4 gives (0 ∷ 3 ∷ 5 ∷ 0 ∷ []) ∷
@@ -63,8 +62,7 @@ made-table =
     made "$ 1: D1 G1L1 JL7 Z" 0 418 gives replicate 418 0 ∷ []
 
 abbrev answer-table : Table String Assembled
-answer-table =
-    "$ LIP2 K4 A-1 C\"HELLO\" Z" gives Accepted 423 ∷
+answer-table = "$ LIP2 K4 A-1 C\"HELLO\" Z" gives Accepted 423 ∷
     -- no item at all, with gaps and comments
     "/ none\n  $ / begins\n Z / ends" gives Accepted 416 ∷
     -- refused: number, place and line
@@ -105,13 +103,9 @@ long n more = bytes "$ C\"" ++ replicate n 65 ++ bytes "\"" ++ bytes more
 
 -- by a text's bytes and the memory's length, with a table of one label
 abbrev length-table : Table (List ℕ × ℕ) Assembled
-length-table =
-    (bytes "", 511) gives refused 24 0 1 ∷
-    (bytes "$ Z", 32769) gives refused 24 0 1 ∷
+length-table = (bytes "", 511) gives refused 24 0 1 ∷ (bytes "$ Z", 32769) gives refused 24 0 1 ∷
     -- a program may fill the memory; then the first item that does not fit
-    (long 191 " 1: Z", 512) gives Accepted 512 ∷
-    (long 192 " Z", 512) gives refused 24 2 1 ∷
-    (long 191 "\nD1 D2 Z", 512) gives refused 24 197 2 ∷ []
+    (long 191 " 1: Z", 512) gives Accepted 512 ∷ (long 192 " Z", 512) gives refused 24 2 1 ∷ (long 191 "\nD1 D2 Z", 512) gives refused 24 197 2 ∷ []
 
 pub record Labels : Type 0 where
   -- labels in text order, with their addresses; a last label may stand past the memory; none of a refused text

@@ -45,8 +45,7 @@ module _ (memory room at : ℕ) (labels : List Label) where
   no-fault-placed i h = rw (no-fault-ranged i h) at h
 
   pub label-placed : (n : ℕ) → labelFault room labels n ≡ 0 → (defined labels n ≡ false) × (length labels < room)
-  label-placed n h =
-      by-cases (defined labels n) (λ p. let z : _≡_ {A = ℕ} 21 0 = rw p at h in absurd (omega arith)) (λ p.
+  label-placed n h = by-cases (defined labels n) (λ p. let z : _≡_ {A = ℕ} 21 0 = rw p at h in absurd (omega arith)) (λ p.
       by-order (length labels) room (λ l. (p, l)) (λ l.
       let z : _≡_ {A = ℕ} 25 0 = rw (p, le-leb room (length labels) l) at h in absurd (omega arith)))
 
@@ -55,8 +54,7 @@ module _ (memory room at : ℕ) (labels : List Label) where
 
   pub no-fault-label : (n : ℕ) → fault memory room at labels (I.label n) ≡ 0 → (n ≤ 32767) × (length labels < room) × (defined labels n ≡ false)
   unfolding misplaced inRange
-  no-fault-label n h =
-      let p : (defined labels n ≡ false) × (length labels < room) = label-placed n (no-fault-placed (I.label n) h) in
+  no-fault-label n h = let p : (defined labels n ≡ false) × (length labels < room) = label-placed n (no-fault-placed (I.label n) h) in
       (label-range n (no-fault-ranged (I.label n) h) .1, p .1, p .0)
 
   pub no-fault-fits : (i : I.Item) → fault memory room at labels i ≡ 0 → at ≤ memory → at + size i ≤ memory

@@ -30,8 +30,7 @@ module _ (labels : List Label) (i : I.Item) (at : ℕ) (memory : List ℕ) {answ
   was-unknown q = by-cases (known labels i) (λ e. let y : S.Unknown ≡ S.To (at + size i) = sym q ∙ w .answers ∙ rw e in contradiction cc) (λ e. e)
 
   was-to : {address : ℕ} → answer ≡ S.To address → (known labels i ≡ true) × (address ≡ at + size i)
-  was-to {address} q =
-      by-cases (known labels i) (λ e. let y : S.To address ≡ S.To (at + size i) = sym q ∙ w .answers ∙ rw e in (e, cc))
+  was-to {address} q = by-cases (known labels i) (λ e. let y : S.To address ≡ S.To (at + size i) = sym q ∙ w .answers ∙ rw e in (e, cc))
       (λ e. let y : S.To address ≡ S.Unknown = sym q ∙ w .answers ∙ rw e in contradiction cc)
 
 pub filling-start : (labels : List Label) (text memory : List ℕ) (from : ℕ) → 416 ≤ length memory
@@ -42,12 +41,7 @@ module _ (labels : List Label) (text memory₀ : List ℕ) (from place at : ℕ)
   where
     pub filling-end : {e : Ending} → body 0 place (drop place text) ≡ ends e → WritesAll labels (body 0 from (drop from text)) memory₀ W.Whole memory
     unfolding unknowns filled asWritten
-    filling-end e =
-        record {
-          same = l .same;
-          answers = rw (l .unknown-so-far, e);
-          writes = λ q. sym (l .filled-so-far ∙ rw e);
-        }
+    filling-end e = record { same = l .same; answers = rw (l .unknown-so-far, e); writes = λ q. sym (l .filled-so-far ∙ rw e) }
 
     module _ {first : ℕ} {item : Item} {past : ℕ} (i : Reads text place first item past) where
       -- the item with its characters is the one that was read
@@ -60,25 +54,22 @@ module _ (labels : List Label) (text memory₀ : List ℕ) (from place at : ℕ)
       fits-here = rw (i .goes-on) at (l .fits)
 
       pub filling-writable : Writable (itemAt text first item) at memory
-      filling-writable =
-          rw item-is
-          (record {
-            sound = i .sound;
-            ranged = fits-here .0;
-            fits = rw (l .same) (fits-here .1);
-            globals = rw (l .same) (l .globals);
-          })
+      filling-writable = rw item-is (record {
+        sound = i .sound;
+        ranged = fits-here .0;
+        fits = rw (l .same) (fits-here .1);
+        globals = rw (l .same) (l .globals);
+      })
 
       pub filling-spelled : Spelled text first item
       filling-spelled = record { spelled = found }
         where
           found : (n : ℕ) → item ≡ C.String n → Quoting text (first + 2) × (length (letters text (first + 2)) ≡ n) × (first + 2 ≤ length text)
-          found n e =
-              let k : StringKept (i .read) n = when-string (i .read) (i .same) e in (
-                i .spelled (k .characters) (k .item) .0,
-                ap length (i .spelled (k .characters) (k .item) .1) ∙ sym (k .same-length),
-                i .spelled (k .characters) (k .item) .2,
-              )
+          found n e = let k : StringKept (i .read) n = when-string (i .read) (i .same) e in (
+            i .spelled (k .characters) (k .item) .0,
+            ap length (i .spelled (k .characters) (k .item) .1) ∙ sym (k .same-length),
+            i .spelled (k .characters) (k .item) .2,
+          )
 
       module _ {answer : Step} {memory′ : List ℕ} (w : Writes labels (itemAt text first item) at memory answer memory′) where
         written : Writes labels (i .read) at memory answer memory′
@@ -86,12 +77,11 @@ module _ (labels : List Label) (text memory₀ : List ℕ) (from place at : ℕ)
 
         pub filling-unknown : answer ≡ S.Unknown → WritesAll labels (body 0 from (drop from text)) memory₀ (W.Unknown first) memory′
         unfolding unknowns asWritten
-        filling-unknown q =
-            record {
-              same = w .same ∙ l .same;
-              answers = rw (l .unknown-so-far, i .goes-on, was-unknown labels (i .read) at memory written q);
-              writes = λ e. contradiction cc;
-            }
+        filling-unknown q = record {
+          same = w .same ∙ l .same;
+          answers = rw (l .unknown-so-far, i .goes-on, was-unknown labels (i .read) at memory written q);
+          writes = λ e. contradiction cc;
+        }
 
         pub filling-on : {address : ℕ} → answer ≡ S.To address → Filling labels text memory₀ from past address memory′
         unfolding unknowns filled

@@ -19,21 +19,18 @@ use Rattle.assembler.proofs.Writing.{global-range}
 
 set-append-right : (xs ys : List ℕ) (i a : ℕ) → set (xs ++ ys) (length xs + i) a ≡ xs ++ set ys i a
 set-append-right [] ys i a = let z : 0 + i ≡ i = omega arith in rw z
-set-append-right (x ∷ xs) ys i a =
-    let z : suc (length xs) + i ≡ suc (length xs + i) = omega arith in
+set-append-right (x ∷ xs) ys i a = let z : suc (length xs) + i ≡ suc (length xs + i) = omega arith in
     rw z (ap (λ (l : List ℕ). x ∷ l) (set-append-right xs ys i a))
 
 drop-zeros : (n k : ℕ) → n ≤ k → drop n (replicate {A = ℕ} k 0) ≡ replicate (k - n) 0
-drop-zeros n k h =
-    let z : n + (k - n) ≡ k = omega arith in
+drop-zeros n k h = let z : n + (k - n) ≡ k = omega arith in
     let e : replicate {A = ℕ} n 0 ++ replicate (k - n) 0 ≡ replicate k 0 = replicate-append-replicate n (k - n) 0 ∙ rw z in
     rw (← e) (drop-at (replicate n 0) (replicate (k - n) 0) n (length-replicate n 0))
 
 -- words over zeros
 over-zeros : (front ws : List ℕ) (k : ℕ) → length ws ≤ k
     → sets (front ++ replicate k 0) (length front) ws ≡ front ++ ws ++ replicate (k - length ws) 0
-over-zeros front ws k h =
-    let n : length (front ++ replicate k 0) ≡ length front + k = length-append front (replicate k 0) ∙ rw length-replicate in
+over-zeros front ws k h = let n : length (front ++ replicate k 0) ≡ length front + k = length-append front (replicate k 0) ∙ rw length-replicate in
     sets-eq ws (front ++ replicate k 0) (length front) (omega arith)
     ∙ rw (take-at front (replicate k 0) (length front) refl, drop-append-add, drop-zeros (length ws) k h)
 
@@ -64,8 +61,7 @@ module _ (memory room : ℕ) where
       → lay memory room at labels items ≡ laid ls end → Ends memory at items end
   unfolding lay ending FitsAll
   laid-ends at labels [] {ls} {end} l h = let z : at ≡ end = cc in record { fits = tt; ends = z; within = rw z at l }
-  laid-ends at labels (p ∷ ps) {ls} {end} l h =
-      let f = laid-first memory room at labels p ps h in
+  laid-ends at labels (p ∷ ps) {ls} {end} l h = let f = laid-first memory room at labels p ps h in
       let b = no-fault-fits memory room at labels (p .item) (f .0) l in
       let r : Ends memory (at + size (p .item)) ps end = laid-ends (at + size (p .item)) (noted at labels (p .item)) ps b (f .1) in
       record { fits = (no-fault-ranged memory room at labels (p .item) (f .0), b, r .fits); ends = r .ends; within = r .within }
@@ -84,21 +80,17 @@ module _ (labels : List Label) (st : List ℕ) (sixteen : length st ≡ 16) wher
     put-words : (ws : List ℕ) → length ws ≤ k → sets (so-far gs pr k) at ws ≡ so-far gs (pr ++ ws) (k - length ws)
     put-words ws h =
         let o : sets (so-far gs pr k) (length (st ++ gs ++ pr)) ws ≡ st ++ gs ++ pr ++ ws ++ replicate (k - length ws) 0 = over-zeros (st ++ gs ++ pr)
-        ws k h in
-        (rw front-length at o) ∙ rw (append-assoc (st ++ gs) pr ws)
+        ws k h in (rw front-length at o) ∙ rw (append-assoc (st ++ gs) pr ws)
 
     put-global : (n v : ℕ) → n < 400 → set (so-far gs pr k) (16 + n) v ≡ so-far (set gs n v) pr k
-    put-global n v h =
-        let o : length (st ++ gs) ≡ 416 = simp length-append (omega arith) in
+    put-global n v h = let o : length (st ++ gs) ≡ 416 = simp length-append (omega arith) in
         let p : 16 + n < length (st ++ gs ++ pr) = simp length-append (omega arith) in
         let q : set (st ++ gs) (16 + n) v ≡ st ++ set gs n v = rw (← sixteen) (set-append-right st gs n v) in
-        set-append-left (st ++ gs ++ pr) (replicate k 0) (16 + n) v p
-        ∙ rw (set-append-left (st ++ gs) pr (16 + n) v (omega arith), q)
+        set-append-left (st ++ gs ++ pr) (replicate k 0) (16 + n) v p ∙ rw (set-append-left (st ++ gs) pr (16 + n) v (omega arith), q)
 
     put-item : (i : I.Item) → size i ≤ k
         → sets (so-far gs pr k) at (words (addressOf labels) i) ≡ so-far gs (pr ++ words (addressOf labels) i) (k - size i)
-    put-item i h =
-        let n : length (words (addressOf labels) i) ≡ size i = length-words (addressOf labels) i in
+    put-item i h = let n : length (words (addressOf labels) i) ≡ size i = length-words (addressOf labels) i in
         rw (← n) (put-words (words (addressOf labels) i) (omega arith))
 
     no-words : (gs pr : List ℕ) → so-far gs pr k ≡ so-far gs (pr ++ []) (k - 0)
@@ -111,8 +103,7 @@ module _ (labels : List Label) (st : List ℕ) (sixteen : length st ≡ 16) wher
     put-is (I.instruction f i b x) r h = put-item (I.instruction f i b x) h
     put-is (I.constant x) r h = put-item (I.constant x) h
     put-is (I.string cs) r h = put-item (I.string cs) h
-    put-is (I.global n m) r h =
-        let l : n ≤ 399 = global-range n m r .0 in
+    put-is (I.global n m) r h = let l : n ≤ 399 = global-range n m r .0 in
         put-global n (addressOf labels m) (omega arith) ∙ no-words (set gs n (addressOf labels m)) pr
 
   length-after : (gs : List ℕ) (i : I.Item) → length (globalsAfter labels gs i) ≡ length gs
@@ -147,5 +138,4 @@ pub image-is : (memory : ℕ) (labels : List Label) (items : List I.Placed) (end
     → filled labels 416 (start ++ noGlobals ++ replicate (memory - 416) 0) items ≡ image memory labels items end
 unfolding image noGlobals
 image-is memory labels items end h e =
-    filled-is labels start refl items noGlobals [] (memory - 416) 416 memory refl length-none (omega arith) (e .fits)
-    ∙ rw (e .ends)
+    filled-is labels start refl items noGlobals [] (memory - 416) 416 memory refl length-none (omega arith) (e .fits) ∙ rw (e .ends)

@@ -41,8 +41,7 @@ told-from k n [] = refl
 told-from k zero (zero ∷ index) = rw (add-zero k) (below (suc k) k index (omega arith))
 told-from k zero (suc a ∷ index) = rw (add-zero k) (simp (eq-eqb k k refl))
 told-from k (suc n) (zero ∷ index) = rw (add-shift k n) (told-from (suc k) n index)
-told-from k (suc n) (suc a ∷ index) =
-    rw (add-shift k n) (simp (ne-eqb k (suc k + n) (λ q. omega arith)) (told-from (suc k) n index))
+told-from k (suc n) (suc a ∷ index) = rw (add-shift k n) (simp (ne-eqb k (suc k + n) (λ q. omega arith)) (told-from (suc k) n index))
 
 module _ (index : List ℕ) (n : ℕ) where
   told : asFound (listed index) n ≡ entry (getD index n 0)
@@ -62,13 +61,8 @@ no-entries k zero = refl
 no-entries k (suc n) = no-entries (suc k) n
 
 pub indexes-none : {index : List ℕ} → index ≡ replicate 32768 0 → Indexes index []
-indexes-none e =
-    let z : listed _ ≡ [] = ap listed e ∙ no-entries 0 32768 in
-    record {
-      sized = ap length e ∙ length-replicate {A = ℕ} 32768 0;
-      counts = ap length z;
-      tells = λ m. rw z;
-    }
+indexes-none e = let z : listed _ ≡ [] = ap listed e ∙ no-entries 0 32768 in
+    record { sized = ap length e ∙ length-replicate {A = ℕ} 32768 0; counts = ap length z; tells = λ m. rw z }
 
 one-more : (k n a : ℕ) (index : List ℕ) → n < length index → getD index n 0 ≡ 0
     → length (listedFrom k (set index n (suc a))) ≡ suc (length (listedFrom k index))
@@ -88,8 +82,7 @@ found-more : (labels : List Label) (n a m : ℕ) → defined labels n ≡ false
     → asFound (labels ++ (record { number = n; address = a } ∷ [])) m ≡ cond (eqb n m) (At a) (asFound labels m)
 unfolding asFound defined addressOf
 found-more [] n a m h = by-cases (eqb n m) (λ e. simp e) (λ e. simp e)
-found-more (l ∷ ls) n a m h =
-    by-cases (eqb (l .number) m)
+found-more (l ∷ ls) n a m h = by-cases (eqb (l .number) m)
     (λ e. let q : l .number ≡ m = eqb-true _ _ e in simp (e, ne-eqb n m (λ p. not-first l ls n h .0 (q ∙ sym p))))
     (λ e. simp e (found-more ls n a m (not-first l ls n h .1)))
 
@@ -97,14 +90,13 @@ pub indexes-more : (index : List ℕ) (labels : List Label) (n a : ℕ) → Inde
     → Indexes (set index n a) (labels ++ (record { number = n; address = a } ∷ []))
 unfolding asFound
 indexes-more index labels n zero i h p f = absurd (omega arith)
-indexes-more index labels n (suc a) i h p f =
-    record {
-      sized = rw length-set (i .sized);
-      counts = one-more 0 n a index within vacant ∙ rw length-append (omega (arith, i .counts));
-      tells = λ m. told (set index n (suc a)) m ∙ by-equal n m (λ q. rw (eq-eqb n m q, ← q, getD-set-same index n (suc a) 0 within))
-          (λ q. rw (ne-eqb n m q, getD-set-other index n m (suc a) 0 (λ k. q (sym k))) (sym (told index m) ∙ i .tells m))
-          ∙ sym (found-more labels n (suc a) m f);
-    }
+indexes-more index labels n (suc a) i h p f = record {
+  sized = rw length-set (i .sized);
+  counts = one-more 0 n a index within vacant ∙ rw length-append (omega (arith, i .counts));
+  tells = λ m. told (set index n (suc a)) m ∙ by-equal n m (λ q. rw (eq-eqb n m q, ← q, getD-set-same index n (suc a) 0 within))
+      (λ q. rw (ne-eqb n m q, getD-set-other index n m (suc a) 0 (λ k. q (sym k))) (sym (told index m) ∙ i .tells m))
+      ∙ sym (found-more labels n (suc a) m f);
+}
   where
     within : n < length index
     within = omega (arith, i .sized)
@@ -125,8 +117,7 @@ undefined-zero (l ∷ ls) n h = simp (ne-eqb (l .number) n (not-first l ls n h .
 module _ (a b : List Label) (same : (n : ℕ) → asFound a n ≡ asFound b n) where
   told-same : (n : ℕ) → (defined a n ≡ defined b n) × (addressOf a n ≡ addressOf b n)
   unfolding asFound
-  told-same n =
-      by-cases (defined a n)
+  told-same n = by-cases (defined a n)
       (λ e. let f : asFound a n ≡ At (addressOf a n) = rw e in (e ∙ sym (was-at b n (same n) f .0), sym (was-at b n (same n) f .1)))
       (λ e. let f : asFound a n ≡ Missing = rw e in
       let g : defined b n ≡ false = was-missing b n (same n) f in (e ∙ sym g, undefined-zero a n e ∙ sym (undefined-zero b n g)))
@@ -171,9 +162,8 @@ module _ {index : List ℕ} {labels : List Label} (i : Indexes index labels) whe
 
   pub writes-same : {s : Scan} {memory : List ℕ} {answer : Written} {memory′ : List ℕ}
       → WritesAll (listed index) s memory answer memory′ → WritesAll labels s memory answer memory′
-  writes-same {s} {memory} w =
-      record {
-        same = w .same;
-        answers = rw (← unknowns-same (listed index) labels (i .tells) (s .items)) (w .answers);
-        writes = λ q. w .writes q ∙ filled-same (listed index) labels (i .tells) 416 memory (s .items);
-      }
+  writes-same {s} {memory} w = record {
+    same = w .same;
+    answers = rw (← unknowns-same (listed index) labels (i .tells) (s .items)) (w .answers);
+    writes = λ q. w .writes q ∙ filled-same (listed index) labels (i .tells) 416 memory (s .items);
+  }

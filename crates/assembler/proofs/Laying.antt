@@ -47,42 +47,39 @@ pub record Laying (text : List ℕ) (memory from : ℕ) (table₀ : List ℕ) (p
 pub laying-start : (text : List ℕ) (memory from : ℕ) (table index : List ℕ) → 416 ≤ memory → Zeros table → index ≡ replicate 32768 0
     → Laying text memory from table from 416 0 table index
 unfolding records
-laying-start text memory from table index h z e =
-    record {
-      same = refl;
-      tabled = no-labels table z;
-      indexed = indexes-none e;
-      high = omega arith;
-      low = h;
-      so-far = refl;
-    }
+laying-start text memory from table index h z e = record {
+  same = refl;
+  tabled = no-labels table z;
+  indexed = indexes-none e;
+  high = omega arith;
+  low = h;
+  so-far = refl;
+}
 
 module _ (text : List ℕ) (memory from : ℕ) (table₀ : List ℕ) (place at count : ℕ) (table index : List ℕ)
     (l : Laying text memory from table₀ place at count table index) where
   pub laying-whole : body 0 place (drop place text) ≡ ends whole → Lays memory (body 0 from (drop from text)) table₀ (P.Placed at) table index
   unfolding laidBy afterEnding lay
-  laying-whole e =
-      record {
-        count = count;
-        same = l .same;
-        answers = sym (l .so-far ∙ rw e);
-        tabled = l .tabled;
-        indexed = l .indexed;
-        fits = λ d q. let z : at ≡ d = cc in rw z at (l .low);
-      }
+  laying-whole e = record {
+    count = count;
+    same = l .same;
+    answers = sym (l .so-far ∙ rw e);
+    tabled = l .tabled;
+    indexed = l .indexed;
+    fits = λ d q. let z : at ≡ d = cc in rw z at (l .low);
+  }
 
   refusal-lays : (n p : ℕ) → laying memory (length table₀) at (records (take count table)) (body 0 place (drop place text)) ≡ refused n p
       → Lays memory (body 0 from (drop from text)) table₀ (P.Fault n p) table index
   unfolding laidBy
-  refusal-lays n p e =
-      record {
-        count = count;
-        same = l .same;
-        answers = sym (l .so-far ∙ e);
-        tabled = l .tabled;
-        indexed = l .indexed;
-        fits = λ d q. contradiction cc;
-      }
+  refusal-lays n p e = record {
+    count = count;
+    same = l .same;
+    answers = sym (l .so-far ∙ e);
+    tabled = l .tabled;
+    indexed = l .indexed;
+    fits = λ d q. contradiction cc;
+  }
 
   pub laying-not : {p : ℕ} → body 0 place (drop place text) ≡ ends (unreadable p)
       → Lays memory (body 0 from (drop from text)) table₀ (P.Fault 20 p) table index
@@ -103,8 +100,7 @@ module _ (text : List ℕ) (memory from : ℕ) (table₀ : List ℕ) (place at c
     fault-is = sym (fault-blank memory (length table₀) at (records (take count table)) (i .read)) ∙ (rw (i .same) at known-fault)
 
     pub laying-fault : (r ≡ 0 → ⊥) → Lays memory (body 0 from (drop from text)) table₀ (P.Fault r first) table index
-    laying-fault h =
-        refusal-lays r first (rw (i .goes-on) (lay-refused memory (length table₀) at (records (take count table)) first (i .read)
+    laying-fault h = refusal-lays r first (rw (i .goes-on) (lay-refused memory (length table₀) at (records (take count table)) first (i .read)
         (body 0 past (drop past text)) r fault-is h))
 
     module _ (z : r ≡ 0) where
@@ -112,8 +108,7 @@ module _ (text : List ℕ) (memory from : ℕ) (table₀ : List ℕ) (place at c
       laying-in-range = no-fault-ranged memory (length table₀) at (records (take count table)) (itemOf blank item) (known-fault ∙ z)
 
       pub laying-notable : memory < 65536 → Notable at item count table index
-      laying-notable h =
-          may-note memory at item count table index (l .tabled) (l .indexed) (omega (arith, l .high)) (omega (arith, l .low))
+      laying-notable h = may-note memory at item count table index (l .tabled) (l .indexed) (omega (arith, l .high)) (omega (arith, l .low))
           (rw (l .same) (known-fault ∙ z))
 
       size-is : {s : ℕ} → s ≡ size (itemOf blank item) → s ≡ size (i .read)
@@ -125,16 +120,13 @@ module _ (text : List ℕ) (memory from : ℕ) (table₀ : List ℕ) (place at c
       pub laying-on : {count′ s : ℕ} {table′ index′ : List ℕ} → Notes at (itemOf blank item) count table count′ table′ index′
           → s ≡ size (itemOf blank item)
           → Laying text memory from table₀ past (at + s) count′ table′ index′
-      laying-on {count′} {s} {table′} n e =
-          record {
-            same = n .same ∙ l .same;
-            tabled = n .tabled;
-            indexed = n .indexed;
-            high = omega (arith, l .high);
-            low = laying-size e;
-            so-far =
-                l .so-far
-                ∙ rw (i .goes-on)
-                (lay-on memory (length table₀) at (records (take count table)) first (i .read) (body 0 past (drop past text)) (fault-is ∙ z)
-                ∙ rw (n .notes, i .same, noted-blank at (records (take count table)) (i .read), size-is e));
-          }
+      laying-on {count′} {s} {table′} n e = record {
+        same = n .same ∙ l .same;
+        tabled = n .tabled;
+        indexed = n .indexed;
+        high = omega (arith, l .high);
+        low = laying-size e;
+        so-far = l .so-far ∙ rw (i .goes-on)
+            (lay-on memory (length table₀) at (records (take count table)) first (i .read) (body 0 past (drop past text)) (fault-is ∙ z)
+            ∙ rw (n .notes, i .same, noted-blank at (records (take count table)) (i .read), size-is e));
+      }

@@ -13,15 +13,13 @@ use Rattle.assembler.specs.declared.Found.the-variants.{At, Missing}
 pub was-at : (labels : List Label) (n : ℕ) {f : Found} {a : ℕ} → f ≡ asFound labels n → f ≡ At a
     → (defined labels n ≡ true) × (addressOf labels n ≡ a)
 unfolding asFound
-was-at labels n {f} {a} p q =
-    by-cases (defined labels n) (λ e. let z : At (addressOf labels n) ≡ At a = (rw e at (sym p)) ∙ q in (e, cc))
+was-at labels n {f} {a} p q = by-cases (defined labels n) (λ e. let z : At (addressOf labels n) ≡ At a = (rw e at (sym p)) ∙ q in (e, cc))
     (λ e. let y : Missing ≡ At a = (rw e at (sym p)) ∙ q in contradiction cc)
 
 pub was-missing : (labels : List Label) (n : ℕ) {f : Found} → f ≡ asFound labels n → f ≡ Missing → defined labels n ≡ false
 unfolding asFound
 was-missing labels n {f} p q =
-    by-cases (defined labels n) (λ e. let y : At (addressOf labels n) ≡ Missing = (rw e at (sym p)) ∙ q in contradiction cc)
-    (λ e. e)
+    by-cases (defined labels n) (λ e. let y : At (addressOf labels n) ≡ Missing = (rw e at (sym p)) ∙ q in contradiction cc) (λ e. e)
 
 pub length-records : (keys : List ℕ) → length (records keys) ≡ length keys
 unfolding records
@@ -42,8 +40,7 @@ module _ (room : ℕ) (labels : List Label) (count n : ℕ) {f : Found} (l : len
 
 first-told : (l : Label) (ls : List Label) → lookedUp (l ∷ ls) (l .number) ≡ toldBy l
 unfolding lookedUp defined addressOf
-first-told l ls =
-    by-cases (eqb (l .number) 0) (λ e. simp (eq-eqb (l .number) (l .number) refl, e))
+first-told l ls = by-cases (eqb (l .number) 0) (λ e. simp (eq-eqb (l .number) (l .number) refl, e))
     (λ e. simp (eq-eqb (l .number) (l .number) refl, e))
 
 first-other : (l : Label) (ls : List Label) (n : ℕ) → (l .number ≡ n → ⊥) → lookedUp (l ∷ ls) n ≡ lookedUp ls n
@@ -76,5 +73,4 @@ none-vacant (suc more) n h = first-other vacant (replicate more vacant) n (λ e.
 pub looked-in-labels : (labels : List Label) (more n : ℕ) → (n ≡ 0 → ⊥) → lookedUp (labels ++ replicate more vacant) n ≡ asFound labels n
 unfolding lookedUp defined addressOf asFound
 looked-in-labels [] more n h = none-vacant more n h
-looked-in-labels (l ∷ ls) more n h =
-    by-cases (eqb (l .number) n) (λ e. simp (e, ne-eqb n 0 h)) (λ e. simp e (looked-in-labels ls more n h))
+looked-in-labels (l ∷ ls) more n h = by-cases (eqb (l .number) n) (λ e. simp (e, ne-eqb n 0 h)) (λ e. simp e (looked-in-labels ls more n h))

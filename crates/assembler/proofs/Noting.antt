@@ -25,16 +25,12 @@ module _ (table : List ℕ) (count key : ℕ) (t : Table count table) (h : count
   first-keys = rw add-one (take-suc-set table count key h)
 
   one-key : Table (count + 1) (set table count key)
-  one-key =
-      let left : length table - count ≡ suc (length table - (count + 1)) = omega arith in
+  one-key = let left : length table - count ≡ suc (length table - (count + 1)) = omega arith in
       let before : table ≡ take count table ++ (0 ∷ replicate (length table - (count + 1)) 0) = t .zeros ∙ rw left refl in
       let stored : set table count key ≡ take count table ++ (key ∷ replicate (length table - (count + 1)) 0) =
       ap (λ (l : List ℕ). set l count key) before
       ∙ set-at (take count table) 0 (replicate (length table - (count + 1)) 0) key count (length-take-le count table (t .fits)) in
-      record {
-        fits = rw length-set (omega arith);
-        zeros = stored ∙ sym (rw (first-keys, length-set, append-assoc));
-      }
+      record { fits = rw length-set (omega arith); zeros = stored ∙ sym (rw (first-keys, length-set, append-assoc)) }
 
 pub records-append : (a b : List ℕ) → records (a ++ b) ≡ records a ++ records b
 unfolding records
@@ -43,8 +39,7 @@ records-append (k ∷ a) b = ap (λ (l : List Label). recordOf k ∷ l) (records
 
 one-record : (n at : ℕ) → at < 65536 → records ((n * 65536 + at) ∷ []) ≡ record { number = n; address = at } ∷ []
 unfolding records
-one-record n at h =
-    let p : (n * 65536 + at) / 65536 ≡ n = digits-div n h in
+one-record n at h = let p : (n * 65536 + at) / 65536 ≡ n = digits-div n h in
     let q : (n * 65536 + at) % 65536 ≡ at = digits-mod n h in
     rw (p, q)
 
@@ -76,8 +71,6 @@ unfolding itemOf
 may-note memory at item count table index t i high low h = record { tabled = t; indexed = i; low = (high, low); free = free }
   where
     free : (n : ℕ) → item ≡ C.Label n → (n < 32768) × (count < length table) × (defined (records (take count table)) n ≡ false)
-    free n e =
-        let z : (n ≤ 32767) × (length (records (take count table)) < length table) × (defined (records (take count table)) n ≡ false) =
+    free n e = let z : (n ≤ 32767) × (length (records (take count table)) < length table) × (defined (records (take count table)) n ≡ false) =
         no-fault-label memory (length table) at (records (take count table)) n (rw e at h) in
-        let l : length (records (take count table)) ≡ count = count-records count table t in
-        (omega arith, omega arith, z .2)
+        let l : length (records (take count table)) ≡ count = count-records count table t in (omega arith, omega arith, z .2)

@@ -59,12 +59,9 @@ module _ (ls : List Label) (l : Label) where
   free-from : defined ls (l .number) ≡ false → (k : ℕ) → 1 ≤ l .number → l .number ≤ k → suc (free more k) ≡ free ls k
   unfolding free
   free-from u zero h m = absurd (omega (arith, h, m))
-  free-from u (suc k) h m =
-      by-equal (l .number) (suc k)
-      (λ n. let o : defined more (suc k) ≡ true = ap (defined more) (sym n) ∙ own u in
+  free-from u (suc k) h m = by-equal (l .number) (suc k) (λ n. let o : defined more (suc k) ≡ true = ap (defined more) (sym n) ∙ own u in
       let v : defined ls (suc k) ≡ false = ap (defined ls) (sym n) ∙ u in
-      rw (o, v, free-below k (omega (arith, n))))
-      (λ n. let f : suc (free more k) ≡ free ls k = free-from u k h (below n m) in
+      rw (o, v, free-below k (omega (arith, n)))) (λ n. let f : suc (free more k) ≡ free ls k = free-from u k h (below n m) in
       rw (other (suc k) n, ← f) (by-cases (defined ls (suc k)) (λ e. rw e refl) (λ e. rw e refl)))
 
 -- ---- the labels of a layout
@@ -79,8 +76,7 @@ module _ (limit : ℕ) (ls : List Label) (l : Label) (c : Counted limit ls) (u :
   counted-few = let f : suc (free (ls ++ (l ∷ [])) limit) ≡ free ls limit = free-from ls l u limit h m in omega (arith, c, f)
 
   counted-more : Counted limit (ls ++ (l ∷ []))
-  counted-more =
-      let f : suc (free (ls ++ (l ∷ [])) limit) ≡ free ls limit = free-from ls l u limit h m in
+  counted-more = let f : suc (free (ls ++ (l ∷ [])) limit) ≡ free ls limit = free-from ls l u limit h m in
       let n : length (ls ++ (l ∷ [])) ≡ length ls + 1 = length-append ls (l ∷ []) in
       omega (arith, c, f, n)
 
@@ -94,8 +90,7 @@ module _ (limit room : ℕ) (w : limit ≡ 32767) (r : limit ≤ room) (memory :
           (cond (inRange (I.label n)) (cond (defined ls n) 21 (cond (leb limit (length ls)) 25 0)) 23)
       go false d p q = rw p
       go true true p q = rw (p, q)
-      go true false p q =
-          let v : (1 ≤ n) × (n ≤ 32767) = label-range n p in
+      go true false p q = let v : (1 ≤ n) × (n ≤ 32767) = label-range n p in
           let f : length ls < limit = counted-few limit ls (record { number = n; address = 0 }) c q (v .0) (omega (arith, v .1, w)) in
           rw (p, q, lt-leb room (length ls) (omega (arith, f, r)), lt-leb limit (length ls) f)
   same-fault at ls (I.instruction f i b x) c = refl
@@ -105,8 +100,7 @@ module _ (limit room : ℕ) (w : limit ≡ 32767) (r : limit ≤ room) (memory :
 
   counted-noted : (at : ℕ) (ls : List Label) (i : I.Item) → fault memory limit at ls i ≡ 0 → Counted limit ls → Counted limit (noted at ls i)
   unfolding noted misplaced inRange
-  counted-noted at ls (I.label n) e c =
-      let p : inRange (I.label n) ≡ true = no-fault-ranged memory limit at ls (I.label n) e in
+  counted-noted at ls (I.label n) e c = let p : inRange (I.label n) ≡ true = no-fault-ranged memory limit at ls (I.label n) e in
       let v : (1 ≤ n) × (n ≤ 32767) = label-range n p in
       counted-more limit ls (record { number = n; address = at }) c (label-placed memory limit at ls n
       (no-fault-placed memory limit at ls (I.label n) e) .0) (v .0) (omega (arith, v .1, w))
@@ -128,8 +122,7 @@ module _ (limit room : ℕ) (w : limit ≡ 32767) (r : limit ≤ room) (memory :
       → lay memory limit at ls items ≡ laid labels end → length labels ≤ limit
   unfolding lay
   few-laid at ls [] c labels end e = let z : ls ≡ labels = cc in let y : length ls ≤ limit = omega (arith, c) in rw z at y
-  few-laid at ls (p ∷ ps) c labels end e =
-      let f = laid-first memory limit at ls p ps e in
+  few-laid at ls (p ∷ ps) c labels end e = let f = laid-first memory limit at ls p ps e in
       few-laid (at + size (p .item)) (noted at ls (p .item)) ps (counted-noted at ls (p .item) (f .0) c) labels end (f .1)
 
   none-counted : Counted limit []
@@ -146,8 +139,7 @@ pub record Wider (more : ℕ) (a b : Assembly) : Type 0 where
 module _ (text : List ℕ) (memory limit room : ℕ) (r : limit ≤ room) where
   wider-refuse : (number place : ℕ) → Wider (room - limit) (refuse text memory limit number place) (refuse text memory room number place)
   unfolding refuse
-  wider-refuse number place =
-      let e : limit + (room - limit) ≡ room = omega (arith, r) in
+  wider-refuse number place = let e : limit + (room - limit) ≡ room = omega (arith, r) in
       record {
         answers = refl;
         fills = refl;
@@ -157,8 +149,7 @@ module _ (text : List ℕ) (memory limit room : ℕ) (r : limit ≤ room) where
   wider-accept : (labels : List Label) (end : ℕ) (items : List I.Placed) → length labels ≤ limit
       → Wider (room - limit) (accept text memory limit labels end items) (accept text memory room labels end items)
   unfolding accept
-  wider-accept labels end items h =
-      let e : (limit - length labels) + (room - limit) ≡ room - length labels = omega (arith, r, h) in
+  wider-accept labels end items h = let e : (limit - length labels) + (room - limit) ≡ room - length labels = omega (arith, r, h) in
       record {
         answers = refl;
         fills = refl;
@@ -184,12 +175,10 @@ module _ (text : List ℕ) (memory limit room : ℕ) (r : limit ≤ room) where
 
   pub wider : limit ≡ 32767 → Wider (room - limit) (assembled text memory limit) (assembled text memory room)
   unfolding assembled
-  wider w =
-      by-cases (leb 512 memory && leb memory 32768)
+  wider w = by-cases (leb 512 memory && leb memory 32768)
       (λ e. rw (e, same-lay limit room w r memory 416 [] (scan text .items) (none-counted limit room w r memory))
       (wider-laid (lay memory limit 416 [] (scan text .items)) (scan text)
-      (few-laid limit room w r memory 416 [] (scan text .items) (none-counted limit room w r memory))))
-      (λ e. rw e (wider-refuse 24 0))
+      (few-laid limit room w r memory 416 [] (scan text .items) (none-counted limit room w r memory)))) (λ e. rw e (wider-refuse 24 0))
 
 -- ---- the keys that serve a table of so many records
 
@@ -200,8 +189,7 @@ assembles s e = record { answers = s .answers; tells = ap numbers (s .answers); 
 
 pub loads : {text memory : List ℕ} (room : ℕ) {labels : List Label} {answer : Assembled} {memory′ : List ℕ} {labels′ : List Label}
     → room ≡ length labels → Assembles text memory labels answer memory′ labels′ → Loads (assembled text (length memory) room) answer memory′
-loads {text} {memory} room {labels} {answer} {memory′} e a =
-    subst (λ (n : ℕ). Loads (assembled text (length memory) n) answer memory′) (sym e)
+loads {text} {memory} room {labels} {answer} {memory′} e a = subst (λ (n : ℕ). Loads (assembled text (length memory) n) answer memory′) (sym e)
     (record { answers = a .answers; tells = a .tells; fills = a .fills })
 
 module _ (text memory : List ℕ) {answer : Assembled} {memory′ : List ℕ} where

@@ -109,8 +109,7 @@ spelled-string text place {cs} b =
 
 module _ (text : List ℕ) (from : ℕ) {r : Next} (p : r ≡ asNext (N.nextIn text from)) where
   pub reads-one : {place : ℕ} {item : Item} {past : ℕ} → r ≡ M.One place item past → Reads text from place item past
-  reads-one {place} {item} {past} q =
-      let o : OneRead (N.nextIn text from) place item past = when-one (N.nextIn text from) p q in
+  reads-one {place} {item} {past} q = let o : OneRead (N.nextIn text from) place item past = when-one (N.nextIn text from) p q in
       let g : G.NextGiven text from place (o .value) past = G.next-given text from (o .next) in
       record {
         read = o .value;

@@ -25,8 +25,7 @@ one-record k = refl
 pub table-within : (keys : List ℕ) (n : ℕ) → n ≤ length keys → tableOf keys n ≡ records (take n keys)
 unfolding tableOf records
 table-within keys zero h = refl
-table-within keys (suc n) h =
-    let k : n < length keys = omega arith in
+table-within keys (suc n) h = let k : n < length keys = omega arith in
     let e : take (suc n) keys ≡ take n keys ++ (getD keys n 0 ∷ []) = take-suc keys n 0 k in
     ap (λ (l : List Label). l ++ (recordOf (getD keys n 0) ∷ [])) (table-within keys n (omega arith))
     ∙ sym (ap records e ∙ records-append (take n keys) (getD keys n 0 ∷ []))
@@ -42,16 +41,12 @@ append-twice (x ∷ a) b c = ap (λ (l : List Label). x ∷ l) (append-twice a b
 
 pub table-past : (keys : List ℕ) (n : ℕ) → tableOf keys (length keys + n) ≡ records keys ++ replicate n vacant
 unfolding tableOf
-table-past keys zero =
-    let e : length keys + 0 ≡ length keys = omega arith in
+table-past keys zero = let e : length keys + 0 ≡ length keys = omega arith in
     ap (tableOf keys) e ∙ table-within keys (length keys) (omega arith) ∙ ap records (take-length keys) ∙ sym (append-nil (records keys))
-table-past keys (suc n) =
-    let e : length keys + suc n ≡ suc (length keys + n) = omega arith in
+table-past keys (suc n) = let e : length keys + suc n ≡ suc (length keys + n) = omega arith in
     let z : getD keys (length keys + n) 0 ≡ 0 = List·getD-eq-default keys 0 (omega arith) in
-    ap (tableOf keys) e
-    ∙ ap (λ (k : ℕ). tableOf keys (length keys + n) ++ (recordOf k ∷ [])) z
-    ∙ ap (λ (l : List Label). l ++ (vacant ∷ [])) (table-past keys n)
-    ∙ append-twice (records keys) (replicate n vacant) (vacant ∷ [])
+    ap (tableOf keys) e ∙ ap (λ (k : ℕ). tableOf keys (length keys + n) ++ (recordOf k ∷ [])) z
+    ∙ ap (λ (l : List Label). l ++ (vacant ∷ [])) (table-past keys n) ∙ append-twice (records keys) (replicate n vacant) (vacant ∷ [])
     ∙ ap (λ (l : List Label). records keys ++ l) (more-vacant n)
 
 -- ---- the table while it is filled: records up to a place, and the rest as it was
@@ -73,8 +68,7 @@ pub filled-more : (table : List Label) (keys : List ℕ) (i : ℕ) {now : List L
     → now ≡ tableOf keys i ++ drop i table → r ≡ recordOf (getD keys i 0)
     → set now i r ≡ tableOf keys (i + 1) ++ drop (i + 1) table
 unfolding tableOf
-filled-more table keys i {now} {r} h e q =
-    let d : drop i table ≡ getD table i vacant ∷ drop (suc i) table = drop-cons table i vacant h in
+filled-more table keys i {now} {r} h e q = let d : drop i table ≡ getD table i vacant ∷ drop (suc i) table = drop-cons table i vacant h in
     ap (λ (l : List Label). set l i r) (e ∙ ap (λ (l : List Label). tableOf keys i ++ l) d)
     ∙ set-at (tableOf keys i) (getD table i vacant) (drop (suc i) table) r i (length-table keys i)
     ∙ ap (λ (l : Label). tableOf keys i ++ (l ∷ drop (suc i) table)) q
@@ -83,8 +77,7 @@ filled-more table keys i {now} {r} h e q =
 
 pub filled-all : (table : List Label) (keys : List ℕ) (i : ℕ) {now : List Label} → i ≤ length table → length table ≤ i
     → now ≡ tableOf keys i ++ drop i table → now ≡ tableOf keys (length table)
-filled-all table keys i h k e =
-    let z : i ≡ length table = omega (arith, h, k) in
+filled-all table keys i h k e = let z : i ≡ length table = omega (arith, h, k) in
     e ∙ ap (λ (l : List Label). tableOf keys i ++ l) (drop-of-length-le table k) ∙ append-nil (tableOf keys i) ∙ ap (tableOf keys) z
 
 -- ---- the record of a key, as it is read

@@ -127,8 +127,7 @@ module _ (is : List Item) (sound : AllSound is) (clean : Clean [] is) (known-lab
       → onLaid (renderAll is) memory room o (record { items = places 2 is; ending = whole }) .answer ≡ Refused r
       → (r .number ≡ 24) ⊎ (r .number ≡ 25)
   unfolding refuse accept refusal
-  answered (lays labels end e) {r} h =
-      let k : unknowns labels (places 2 is) ≡ [] = known-all labels is 2 (rw e known-labels) in
+  answered (lays labels end e) {r} h = let k : unknowns labels (places 2 is) ≡ [] = known-all labels is 2 (rw e known-labels) in
       let z : onUnknowns (renderAll is) memory room [] labels end (places 2 is) .answer ≡ Refused r = rw k at h in
       contradiction cc
   answered (long place) h = inl cc
@@ -136,8 +135,7 @@ module _ (is : List Item) (sound : AllSound is) (clean : Clean [] is) (known-lab
 
   pub rendered-only : (r : Refusal) → assembled (renderAll is) memory room .answer ≡ Refused r → (r .number ≡ 24) ⊎ (r .number ≡ 25)
   unfolding assembled refuse refusal numbersOf
-  rendered-only r h =
-      by-cases (leb 512 memory && leb memory 32768)
+  rendered-only r h = by-cases (leb 512 memory && leb memory 32768)
       (λ e. answered (lay-clean memory room is 2 416 [] clean) (rw (e, rendered is sound) at h))
       (λ e. let z : Refused (refusal (renderAll is) 24 0) ≡ Refused r = rw e at h in inl cc)
 

@@ -17,8 +17,7 @@ module _ (text : List ℕ) (place : ℕ) (q : Quoting text place) where
 
   follows : {v w : ℕ} → character 34 (drop place text) ≡ is v w → Follows v w
   unfolding letters
-  follows {v} {w} e =
-      let k : Continues 34 255 text (place + w) v w (letters text place) (q .width) = closed-next 34 255 text place (q .reads) e in
+  follows {v} {w} e = let k : Continues 34 255 text (place + w) v w (letters text place) (q .width) = closed-next 34 255 text place (q .reads) e in
       record { letters-are = k .are ∙ rw (k .more); quoting = record { width = k .width; reads = rw (k .more) } }
 
   no-letters : character 34 (drop place text) ≡ closing → letters text place ≡ []
@@ -31,10 +30,8 @@ module _ (text : List ℕ) (place : ℕ) (q : Quoting text place) where
   no-mistake e = closed-right 34 255 text place (q .reads) e
 
 pub past-character : (text : List ℕ) (place : ℕ) {v w : ℕ} → character 34 (drop place text) ≡ is v w → (place + w ≤ length text) × (1 ≤ w)
-past-character text place {v} {w} e =
-    let r : Written (length (drop place text)) v w = is-written 34 (drop place text) e in
-    let l : length (drop place text) ≡ length text - place = length-drop place text in
-    (omega arith, omega arith)
+past-character text place {v} {w} e = let r : Written (length (drop place text)) v w = is-written 34 (drop place text) e in
+    let l : length (drop place text) ≡ length text - place = length-drop place text in (omega arith, omega arith)
 
 -- ---- what the loop keeps
 
@@ -51,8 +48,7 @@ module _ (text : List ℕ) (memory₀ : List ℕ) (at from first place to high :
   pub spells-end : {word : ℕ} → character 34 (drop place text) ≡ closing → word ≡ high * 256 + 0
       → set memory to word ≡ sets memory₀ at (pairs first (letters text from))
   unfolding pairs
-  spells-end {word} e h =
-      let w : word ≡ high * 256 = omega arith in
+  spells-end {word} e h = let w : word ≡ high * 256 = omega arith in
       sym (s .so-far ∙ rw (no-letters text place quoting e, w))
 
   module _ {low width word : ℕ} (e : character 34 (drop place text) ≡ is low width) (h : word ≡ high * 256 + low) where

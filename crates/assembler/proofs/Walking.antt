@@ -106,8 +106,7 @@ module _ {M : Type 1} {𝓤 : URA M} {H : Heap 𝓤} {A : Atoms 𝓤} (W : Given
     (I : X → List (Item 𝓤)) (E : Env 𝓤 H) (turn after : Body) (Q : Val → SProp 𝓤) where
   -- a turn of a loop, at i, whose function goes on with `after`
   abbrev pub Turns : X → Type 1
-  Turns i =
-      Sq W (I i) (runs (𝓣 .C) (𝓣 .Λ) E turn (anyQ (afterTurn 𝓤 H (Below 𝓤 H A ≺ I i)
+  Turns i = Sq W (I i) (runs (𝓣 .C) (𝓣 .Λ) E turn (anyQ (afterTurn 𝓤 H (Below 𝓤 H A ≺ I i)
       (afterBlock 𝓤 H (afterSeq 𝓤 H (Wp 𝓤 H (𝓣 .C) (𝓣 .Λ) E after (atReturn 𝓤 H E Q)) (atReturn 𝓤 H E Q))))))
 
 -- a loop's locals, before the rest of its context: room, or a cell
@@ -171,13 +170,9 @@ module _ {M : Type 1} {𝓤 : URA M} {H : Heap 𝓤} {A : Atoms 𝓤} {K : Type 
   gives-back : K → (n : ℕ) (j : Item 𝓤) {τ : Ty} {b : ℕ} {E : Env 𝓤 H} {g : Goal 𝓤 H} → ent 𝓤 (mean 𝓤 H A j) (H .room τ b 0) → nth 𝓤 H A n Γ ≡ j
       → nth 𝓤 H A n (del 𝓤 H A n Γ) ≡ ‵ (fdies τ b) → Step K W (del 𝓤 H A n (del 𝓤 H A n Γ)) (frees E g) Γ (frees ((τ, b) ∷ E) g)
   gives-back t n j {τ} {b} h e e′ = step (λ s. record {
-    prf =
-        let Δ = del 𝓤 H A n Γ in
-        let Δ′ = del 𝓤 H A n Δ in
-        via 𝓤 (sep 𝓤 (H .room τ b 0) (⋆ 𝓤 H A Δ))
+    prf = let Δ = del 𝓤 H A n Γ in let Δ′ = del 𝓤 H A n Δ in via 𝓤 (sep 𝓤 (H .room τ b 0) (⋆ 𝓤 H A Δ))
         (via 𝓤 (sep 𝓤 (mean 𝓤 H A j) (⋆ 𝓤 H A Δ)) (subst (λ (k : Item 𝓤). ent 𝓤 (⋆ 𝓤 H A Γ) (sep 𝓤 (mean 𝓤 H A k) (⋆ 𝓤 H A Δ))) e (pull 𝓤 H A n Γ))
-        (monoL 𝓤 (⋆ 𝓤 H A Δ) h))
-        (via 𝓤 (sep 𝓤 (H .room τ b 0) (⋆ 𝓤 H A (‵ (fdies τ b) ∷ Δ′)))
+        (monoL 𝓤 (⋆ 𝓤 H A Δ) h)) (via 𝓤 (sep 𝓤 (H .room τ b 0) (⋆ 𝓤 H A (‵ (fdies τ b) ∷ Δ′)))
         (monoR 𝓤 (H .room τ b 0) (via 𝓤 (sep 𝓤 (H .dies τ b) (⋆ 𝓤 H A Δ′))
         (subst (λ (k : Item 𝓤). ent 𝓤 (⋆ 𝓤 H A Δ) (sep 𝓤 (mean 𝓤 H A k) (⋆ 𝓤 H A Δ′))) e′ (pull 𝓤 H A n Δ)) (push 𝓤 H A (‵ (fdies τ b)) Δ′)))
         (via 𝓤 (⋆ 𝓤 H A (‵ (froom τ b 0) ∷ ‵ (fdies τ b) ∷ Δ′)) (push 𝓤 H A (‵ (froom τ b 0)) (‵ (fdies τ b) ∷ Δ′)) ((free1 t $ s) .prf)));
@@ -226,8 +221,7 @@ module _ {M : Type 1} {𝓤 : URA M} {H : Heap 𝓤} {A : Atoms 𝓤} {K : Type 
       → Seq K W (‵ (lasts T (y .0 .0) (y .0 .3) ws) ∷ tokens 𝓤 H A (T .signature .lifetimes) (y .0 .0) (y .0 .1) ∷ ‵
       (typeAt (T .signature .result) (y .0 .0) .own r (w ∷ [])) ∷ Γ) (lands C Λ E d w rest q))
       → Seq K W (i ∷ j ∷ Γ) (runs C Λ E (seq (call f xs d) rest) q)
-  calls-to t fm T c met y asked φ told os k =
-      let κs = y .0 .0 in
+  calls-to t fm T c met y asked φ told os k = let κs = y .0 .0 in
       let a = y .0 .3 in
       use2 W (raw (tripleOf 𝓤 H A (T .signature) (closing 𝓤 H A T c) .pre y)) asked $
       calls-at t fm (tripleOf 𝓤 H A (T .signature) (closing 𝓤 H A T c)) met y os (λ w.
@@ -256,6 +250,5 @@ module _ {M : Type 1} (𝓤 : URA M) (H : Heap 𝓤) (A : Atoms 𝓤) (W : Given
       → ent 𝓤 (onEntry 𝓤 H A S κs qs a (valss (typesAt (S .params) κs) (sp κs) a))
       (run (flat (typesAt (S .params) κs) (valss (typesAt (S .params) κs) (sp κs) a))
       (walkOf 𝓤 H A T hs c .post ((κs, qs, bounds, a, valss (typesAt (S .params) κs) (sp κs) a), g)))) → Meets 𝓤 H A S run (closing 𝓤 H A T c)
-  walk-met gs sp tl k =
-      walk-meets 𝓤 H A T hs W gs c run (WpFn-mono 𝓤 H (W .laws) 𝓣 e)
+  walk-met gs sp tl k = walk-meets 𝓤 H A T hs W gs c run (WpFn-mono 𝓤 H (W .laws) 𝓣 e)
       (walked 𝓤 H A T hs c run sp tl (λ κs qs bounds a g are. via 𝓤 _ (fst∗ 𝓤 _ (c κs a .requires g)) (k κs qs bounds a g are)))

@@ -26,21 +26,11 @@ length-put labels at memory (I.global n m) = length-set memory (16 + n) (address
 
 module _ (labels : List Label) (i : I.Item) (at : ℕ) (memory : List ℕ) where
   pub writes-unknown : known labels i ≡ false → Writes labels i at memory S.Unknown memory
-  writes-unknown h =
-      record {
-        same = refl;
-        answers = rw h;
-        writes = λ t. let y : true ≡ false = sym t ∙ h in contradiction cc;
-      }
+  writes-unknown h = record { same = refl; answers = rw h; writes = λ t. let y : true ≡ false = sym t ∙ h in contradiction cc }
 
   pub writes-known : {a : ℕ} {memory′ : List ℕ} → known labels i ≡ true → a ≡ at + size i → memory′ ≡ put labels at memory i
       → Writes labels i at memory (S.To a) memory′
-  writes-known h e m =
-      record {
-        same = ap length m ∙ length-put labels at memory i;
-        answers = rw h (ap S.To e);
-        writes = λ t. m;
-      }
+  writes-known h e m = record { same = ap length m ∙ length-put labels at memory i; answers = rw h (ap S.To e); writes = λ t. m }
 
 -- ---- operands
 
@@ -64,8 +54,7 @@ module _ (labels : List Label) {f : Found} where
 
   pub short-below : (x : I.Operand) {w : ℕ} → f ≡ valueOf labels x → f ≡ At w → short x ≡ true → w < 512
   unfolding valueOf short
-  short-below (I.number minus s) {w} p q h =
-      let z : signed minus s ≡ w = cc in
+  short-below (I.number minus s) {w} p q h = let z : signed minus s ≡ w = cc in
       let l : signed minus s < 512 = ltb-true (signed minus s) 512 h in
       rw z at l
   short-below (I.address n) p q h = contradiction cc
@@ -94,19 +83,13 @@ module _ (f : ℕ) (i : Bool) (b : I.Base) (x : I.Operand) where
     module _ {word w : ℕ} (e : word ≡ f * 8192 + indirectBit i + baseBit b) (q : found ≡ At w) where
       pub instruction-short : short x ≡ true → Writes labels (I.instruction f i b x) at memory (S.To (at + 1)) (set memory at (word + w))
       unfolding known uses put words size
-      instruction-short s =
-          writes-known labels (I.instruction f i b x) at memory
-          (value-at labels x ranged p q .0)
-          (rw s)
+      instruction-short s = writes-known labels (I.instruction f i b x) at memory (value-at labels x ranged p q .0) (rw s)
           (rw (s, value-at labels x ranged p q .1, ← e))
 
       pub instruction-long : short x ≡ false
           → Writes labels (I.instruction f i b x) at memory (S.To (at + 2)) (set (set memory at (word + 512)) (at + 1) w)
       unfolding known uses put words size
-      instruction-long s =
-          writes-known labels (I.instruction f i b x) at memory
-          (value-at labels x ranged p q .0)
-          (rw s)
+      instruction-long s = writes-known labels (I.instruction f i b x) at memory (value-at labels x ranged p q .0) (rw s)
           (rw (s, value-at labels x ranged p q .1, ← e, add-one))
 
 -- ---- a constant
@@ -123,19 +106,14 @@ module _ (x : I.Operand) (labels : List Label) (at : ℕ) (memory : List ℕ) {f
 
   pub constant-known : {w : ℕ} → found ≡ At w → Writes labels (I.constant x) at memory (S.To (at + 1)) (set memory at w)
   unfolding known uses put words size
-  constant-known q =
-      writes-known labels (I.constant x) at memory
-      (value-at labels x constant-ranged p q .0)
-      refl
-      (rw (value-at labels x constant-ranged p q .1))
+  constant-known q = writes-known labels (I.constant x) at memory (value-at labels x constant-ranged p q .0)
+      refl (rw (value-at labels x constant-ranged p q .1))
 
 -- ---- a global
 
 pub global-range : (n m : ℕ) → inRange (I.global n m) ≡ true → (n ≤ 399) × (labelInRange m ≡ true)
 unfolding inRange
-global-range n m h =
-    let b : (leb n 399 ≡ true) × (labelInRange m ≡ true) = both-true (leb n 399) (labelInRange m) h in
-    (leb-true n 399 (b .0), b .1)
+global-range n m h = let b : (leb n 399 ≡ true) × (labelInRange m ≡ true) = both-true (leb n 399) (labelInRange m) h in (leb-true n 399 (b .0), b .1)
 
 module _ (n m : ℕ) (labels : List Label) (at : ℕ) (memory : List ℕ) {found : Found} (r : Writable (I.global n m) at memory)
     (p : found ≡ asFound labels m) where
@@ -145,11 +123,8 @@ module _ (n m : ℕ) (labels : List Label) (at : ℕ) (memory : List ℕ) {found
 
   pub global-known : {w : ℕ} → found ≡ At w → Writes labels (I.global n m) at memory (S.To at) (set memory (16 + n) w)
   unfolding known uses put size
-  global-known q =
-      writes-known labels (I.global n m) at memory
-      (used-label labels m (global-range n m (r .ranged) .1) ∙ was-at labels m p q .0)
-      (omega arith)
-      (rw (was-at labels m p q .1))
+  global-known q = writes-known labels (I.global n m) at memory (used-label labels m (global-range n m (r .ranged) .1) ∙ was-at labels m p q .0)
+      (omega arith) (rw (was-at labels m p q .1))
 
 -- ---- a label, and a string
 
@@ -169,8 +144,5 @@ module _ (text : List ℕ) (place n at : ℕ) (memory : List ℕ) (r : Writable 
   pub string-writes : (labels : List Label) {memory′ : List ℕ} → memory′ ≡ sets memory at (pairs n (letters text place))
       → Writes labels (I.string (letters text place)) at memory (S.To (at + (n / 2 + 1))) memory′
   unfolding known uses put words size
-  string-writes labels e =
-      writes-known labels (I.string (letters text place)) at memory
-      refl
-      (rw (q .1, add-one))
-      (rw (q .1) e)
+  string-writes labels e = writes-known labels (I.string (letters text place)) at memory
+      refl (rw (q .1, add-one)) (rw (q .1) e)

@@ -32,8 +32,7 @@ module _ {source scratch scratch′ text text′ : List ℕ} {answer : Compiled}
 
   pub refuses : (number place : ℕ) → decided source (length scratch) (length text) ≡ refused number place
       → (answer ≡ C.Refused (refusal source number place)) × (text′ ≡ replicate (length text) 0) × (scratch′ ≡ replicate (length scratch) 0)
-  refuses number place e =
-      (call .answers ∙ ap (answerOf source) e, call .writes ∙ ap (textAfter source (length text)) e, call .clears)
+  refuses number place e = (call .answers ∙ ap (answerOf source) e, call .writes ∙ ap (textAfter source (length text)) e, call .clears)
 
   pub accepts : decided source (length scratch) (length text) ≡ accepted
       → (answer ≡ C.Accepted (length (textOf source))) × (text′ ≡ textOf source ++ replicate (length text - length (textOf source)) 0) ×
@@ -89,8 +88,7 @@ compiled = record {
 assembly : Assembles (take (length (textOf source)) (textAfter source 100 (decided source 1000 100))) (replicate 512 7)
     (replicate 4 (record { number = 7; address = 7 }))
     (A.Accepted 421) (assembled (textOf source) 512 4 .memory) (assembled (textOf source) 512 4 .table)
-assembly =
-    let same = ap (λ (t : List ℕ). assembled t 512 4) (front compiled refl .text-is) in
+assembly = let same = ap (λ (t : List ℕ). assembled t 512 4) (front compiled refl .text-is) in
     let accepts-it = ap (λ (t : List ℕ). assembled t 512 4 .answer) (front compiled refl .text-is ∙ written) ∙ answers in
     record {
       answers = sym accepts-it;

@@ -70,22 +70,21 @@ unfolding applyDyadic symbolsIn valueOf value wordOf quot rem steps resume quote
     decimal ended quotedCharacter quotedString negative quotation labelled positive operand base labelItem instructionItem constantItem stringItem
     globalItem functionOf item gaps mark trailing body scan operandInRange inRange short size pairs operandWord words defined addressOf noted
     misplaced fault lay uses known unknowns noGlobals globalsAfter globals program image refuse accept assembled
-proved-table =
-    record {
-      load = record { accepts = refl; stand = refl };
-      call = record { accepts = refl; stand = refl };
-      add = record { accepts = refl; stand = refl };
-      string = record { accepts = refl; stand = refl };
-      quotient = refl;
-      remainder = refl;
-      source-quotient = refl;
-      source-remainder = refl;
-      act-6 = refl;
-      act-7 = refl;
-      semicolon = symbols-are "F\n(X)" ∙ refl;
-      empty = empty-source;
-      largest = symbols-are "32767" ∙ refl;
-      too-large = symbols-are "32768" ∙ refl;
-      budget-stop = λ first memory input output h. simp (le-leb 512 (length memory) (h .long), le-leb (length memory) 32768 (h .short));
-      budget-count = λ first memory input output h. simp (le-leb 512 (length memory) (h .long), le-leb (length memory) 32768 (h .short));
-    }
+proved-table = record {
+  load = record { accepts = refl; stand = refl };
+  call = record { accepts = refl; stand = refl };
+  add = record { accepts = refl; stand = refl };
+  string = record { accepts = refl; stand = refl };
+  quotient = refl;
+  remainder = refl;
+  source-quotient = refl;
+  source-remainder = refl;
+  act-6 = refl;
+  act-7 = refl;
+  semicolon = symbols-are "F\n(X)" ∙ refl;
+  empty = empty-source;
+  largest = symbols-are "32767" ∙ refl;
+  too-large = symbols-are "32768" ∙ refl;
+  budget-stop = λ first memory input output h. simp (le-leb 512 (length memory) (h .long), le-leb (length memory) 32768 (h .short));
+  budget-count = λ first memory input output h. simp (le-leb 512 (length memory) (h .long), le-leb (length memory) 32768 (h .short));
+}

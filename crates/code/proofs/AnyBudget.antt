@@ -29,8 +29,7 @@ module _ (input : List ℕ) where
   star-run : {n : ℕ} {s t : M.State} → Star input n s t → (k : ℕ) → steps input (n + k) s ≡ after n (steps input k t)
   unfolding steps
   star-run {s = s} here k = let z : 0 + k ≡ k = omega arith in rw z (after-none (steps input k s))
-  star-run {s = s} {t = u} (then {n = n} {t = t} e x) k =
-      let z : suc n + k ≡ suc (n + k) = omega arith in
+  star-run {s = s} {t = u} (then {n = n} {t = t} e x) k = let z : suc n + k ≡ suc (n + k) = omega arith in
       rw (z, e) (ap (after 1) (star-run x k) ∙ after-more n (steps input k u))
 
   star-short : {n : ℕ} {s t : M.State} → Star input n s t → (b : ℕ) → b ≤ n → steps input b s .stop ≡ 31
@@ -41,8 +40,7 @@ module _ (input : List ℕ) where
 
   -- the bytes written lie within the room
   inside : (n : ℕ) (s : M.State) → s .regs .written ≤ length (s .out) → steps input n s .state .regs .written ≤ length (steps input n s .state .out)
-  inside n s h =
-      let g = steps-grow input n s in
+  inside n s h = let g = steps-grow input n s in
       let a = g .within h in
       let e = g .room in
       omega arith
@@ -56,8 +54,7 @@ begins : (s : State) (o : Outcome) → Prefix s o → o .state .regs .written �
 begins s o p l = record {
   within = p .within;
   bytes = ext-getD 0 (take (o .state .regs .written) (o .state .out)) (take (o .state .regs .written) (s .output))
-      (length-take-le (o .state .regs .written) (o .state .out) l ∙ sym (length-take-le (o .state .regs .written) (s .output) (p .within)))
-      (λ i k.
+      (length-take-le (o .state .regs .written) (o .state .out) l ∙ sym (length-take-le (o .state .regs .written) (s .output) (p .within))) (λ i k.
       let j : i < o .state .regs .written = omega (arith, length-take-le (o .state .regs .written) (o .state .out) l) in
       getD-take (o .state .regs .written) (o .state .out) i 0 j ∙ p .each i j ∙ sym (getD-take (o .state .regs .written) (s .output) i 0 j));
 }
@@ -97,8 +94,7 @@ module _ (Γ : Env) (strings : List (List ℕ)) (least : 512 ≤ length (Γ .ima
 
   wholly : (o : List ℕ) → length (s .output) ≤ length o → Whole o
   unfolding steps
-  wholly o l =
-      let lb : length (e .v′ .bytes) ≡ length (s .output) = ap length (e .bytes) in
+  wholly o l = let lb : length (e .v′ .bytes) ≡ length (s .output) = ap length (e .bytes) in
       let r : Reach (Γ .input) (e .n) _ (e .v′) o = e .goes .from o (record { written = refl; fits = omega arith; same = refl }) (omega arith) in
       let f : step (Γ .input) (at (e .v′ .regs) (e .v′ .mem) (r .output)) ≡ finished (at (withC (e .past) (e .v′ .regs)) (e .v′ .mem) (r .output))
       = do-X22 Γ (e .v′) (e .agree) refl (e .finish) (r .output) in
@@ -123,8 +119,7 @@ module _ (Γ : Env) (strings : List (List ℕ)) (least : 512 ≤ length (Γ .ima
     prefix-last : Prefix s (record { stop = 30; count = e .n + 1; state = x .last })
     prefix-last = record {
       within = omega (arith, x .written);
-      each = λ i l.
-          let j : i < length (s .output) = omega (arith, x .written) in
+      each = λ i l. let j : i < length (s .output) = omega (arith, x .written) in
           sym (getD-take (length (s .output)) (x .last .out) i 0 j) ∙ ap (λ (b : List ℕ). getD b i 0) (x .bytes);
     }
 
@@ -142,9 +137,7 @@ module _ (Γ : Env) (strings : List (List ℕ)) (least : 512 ≤ length (Γ .ima
     })
 
     prefix : (b : ℕ) → Prefix s (steps (Γ .input) b (begin o))
-    prefix b =
-        by-order b (e .n + 1)
-        (λ h. let g : Grows (steps (Γ .input) b (begin o) .state) (x .last)
+    prefix b = by-order b (e .n + 1) (λ h. let g : Grows (steps (Γ .input) b (begin o) .state) (x .last)
         = rw (done-run (e .n + 1) (omega arith)) at (budget-beginning (Γ .input) {n = b} {n′ = e .n + 1} (begin o) (omega arith)) in
         record { within = omega (arith, g .place, x .written); each = λ i l. sym (g .kept i l) ∙ prefix-last .each i (omega (arith, g .place)) })
         (λ h. rw (done-run b h) prefix-last)
@@ -166,8 +159,7 @@ module _ (Γ : Env) (strings : List (List ℕ)) (least : 512 ≤ length (Γ .ima
   follows o b = record {
     enough = λ l h. rw (run-is o b) (finishes o l b (omega (arith, in-time)));
     any-budget = λ l. rw (run-is o b) (pick l (decLt b (e .n + 1)));
-    any-room =
-        rw (run-is o b) (begins s (steps (Γ .input) b (begin o))
+    any-room = rw (run-is o b) (begins s (steps (Γ .input) b (begin o))
         (less-room s (room-beginning (Γ .input) b (startRegisters (Γ .place .first)) (Γ .image) o more roomier) (prefix more longer b))
         (inside (Γ .input) b (begin o) (omega arith)));
   }

@@ -62,8 +62,7 @@ module _ (Γ : Env) (fits : Fits Γ) (q : Sem) (ih : Sims Γ q) where
   unfolding arguments exprsCode FormedA count
   sim-arguments R.none n {p = p} {h = h} {s = s} {v = v} more le t9 ez k f pc r g =
       g [] s v r (pc ∙ at-end Γ k) l-none (omega (arith, r .room)) (λ y l e. refl) (λ y l e. e)
-  sim-arguments (R.and e es) n {p = p} {h = h} {z = z} more le t9 ez k f pc r g =
-      cut Γ (exprCode (suc (F Γ)) h n e) _ k λ b₁ k₁ k₂.
+  sim-arguments (R.and e es) n {p = p} {h = h} {z = z} more le t9 ez k f pc r g = cut Γ (exprCode (suc (F Γ)) h n e) _ k λ b₁ k₁ k₂.
       cut-number Γ k₂ λ b₂ i₂ k₃.
       let up : h ≤ h + 1 = omega arith in
       weaken Γ (in-a-step Γ (then Γ le (ih .evaluate e n k₁ (f .0) pc r) λ x s₁ v₁ x₁ y₁.

@@ -22,18 +22,11 @@ module _ (Γ : Env) (fits : Fits Γ) (q : Sem) (ih : Sims Γ q) where
     pub sim-target : (z : Target) → Code Γ a (targetCode (suc (F Γ)) h n z) b → FormedT (F Γ) (S Γ) h z
         → Runs Γ Q (6 + t) p h h s v (assigned (Γ .limit) q z y p h s more)
     unfolding assigned targetCode FormedT
-    sim-target (R.toLocal k) c f =
-        cut-number Γ c λ b₁ i₁ k₁.
-        post-demand has λ w e. post-write (s .cells (p + k)) λ live.
+    sim-target (R.toLocal k) c f = cut-number Γ c λ b₁ i₁ k₁. post-demand has λ w e. post-write (s .cells (p + k)) λ live.
         weaken Γ (cell-P Γ (fits .sized) (le-refl h) r pc i₁ e live λ u r₁ c₁ _. g _ u r₁ (c₁ ∙ at-end Γ k₁)) (omega arith)
-    sim-target (R.toGlobal k) c f =
-        cut-number Γ c λ b₁ i₁ k₁.
-        post-demand has λ w e. post-write (s .cells (16 + k)) λ live.
+    sim-target (R.toGlobal k) c f = cut-number Γ c λ b₁ i₁ k₁. post-demand has λ w e. post-write (s .cells (16 + k)) λ live.
         weaken Γ (cell-G Γ (fits .sized) (le-refl h) r pc i₁ e live λ u r₁ c₁. g _ u r₁ (c₁ ∙ at-end Γ k₁)) (omega arith)
-    sim-target (R.toContents e) c f =
-        cut-number Γ c λ b₁ i₁ k₁.
-        cut Γ (exprCode (suc (F Γ)) (h + 1) n e) _ k₁ λ b₂ k₂ k₃.
-        cut-number Γ k₃ λ b₄ i₄ k₄.
+    sim-target (R.toContents e) c f = cut-number Γ c λ b₁ i₁ k₁. cut Γ (exprCode (suc (F Γ)) (h + 1) n e) _ k₁ λ b₂ k₂ k₃. cut-number Γ k₃ λ b₄ i₄ k₄.
         cut-number Γ k₄ λ b₅ i₅ k₅.
         cut-number Γ k₅ λ b₆ i₆ k₆.
         let up : h ≤ h + 1 = omega arith in
@@ -46,10 +39,7 @@ module _ (Γ : Env) (fits : Fits Γ) (q : Sem) (ih : Sims Γ q) where
         step-LIP Γ (fits .sized) (le-refl h) r₃ c₃ i₅ (omega arith) λ v₄ r₄ c₄ a₄ _ m₄.
         cell-IP Γ (fits .sized) (le-refl h) r₄ c₄ i₆ (a₄ ∙ o₃ (p + h) (λ e. omega arith) ∙ ew) (omega arith) (rw m₄ (g₃ ∙ ed)) live λ v₅ r₅ c₅.
         g _ v₅ r₅ (c₅ ∙ at-end Γ k₆)) (omega arith)
-    sim-target (R.toIndex d e) c f =
-        cut-number Γ c λ b₁ i₁ k₁.
-        cut Γ (exprCode (suc (F Γ)) (h + 1) n d) _ k₁ λ b₂ k₂ k₃.
-        cut-number Γ k₃ λ b₄ i₄ k₄.
+    sim-target (R.toIndex d e) c f = cut-number Γ c λ b₁ i₁ k₁. cut Γ (exprCode (suc (F Γ)) (h + 1) n d) _ k₁ λ b₂ k₂ k₃. cut-number Γ k₃ λ b₄ i₄ k₄.
         cut Γ (exprCode (suc (F Γ)) (h + 2) (n + exprLabels d) e) _ k₄ λ b₅ k₅ k₆.
         cut-number Γ k₆ λ b₇ i₇ k₇.
         cut-number Γ k₇ λ b₈ i₈ k₈.
@@ -64,8 +54,7 @@ module _ (Γ : Env) (fits : Fits Γ) (q : Sem) (ih : Sims Γ q) where
         step-SP Γ (fits .sized) up (like-rel Γ like′ (x₂ .rel)) (y₂ .at) i₄ (le-refl (h + 1)) (omega arith) λ v₃ r₃ c₃ _ g₃ o₃.
         then Γ (omega arith) (part Γ fits q ih e (n + exprLabels d) k₅ (f .1) c₃ (raise Γ r₃ top l′)) λ z′ s₄ v₄ x₄ y₄.
         let gone₂ : s₂ .cells (p + h) ≡ gone = x₂ .keep (p + h) (omega arith) (r₁ .above (p + h) (omega arith)) in
-        let kept : getD (v₄ .mem) (p + h) 0 ≡ v .regs .a =
-        x₄ .frame (p + h) (omega arith) (like′ .cells (p + h) ∙ gone₂)
+        let kept : getD (v₄ .mem) (p + h) 0 ≡ v .regs .a = x₄ .frame (p + h) (omega arith) (like′ .cells (p + h) ∙ gone₂)
         ∙ o₃ (p + h) (λ e. omega arith) ∙ x₂ .frame (p + h) (omega arith) (r₁ .above (p + h) (omega arith)) ∙ g₁ in
         let kept′ : getD (v₄ .mem) (p + (h + 1)) 0 ≡ v₂ .regs .a
         = x₄ .frame (p + (h + 1)) (omega arith) (r₃ .above (p + (h + 1)) (omega arith)) ∙ g₃ in
@@ -85,8 +74,7 @@ module _ (Γ : Env) (fits : Fits Γ) (q : Sem) (ih : Sims Γ q) where
       → v .regs .c ≡ a → Rel Γ p h s v → Runs Γ (Where Γ b x) 0 p h h s v (assignedAll (Γ .limit) q ps p h s)
   unfolding assignedAll pairsCode FormedP
   sim-pairs R.noPairs n {h = h} k f pc r = over Γ (le-refl h) r (w-normal (pc ∙ at-end Γ k))
-  sim-pairs (R.pair t e ps) n {h = h} k f pc r =
-      cut Γ (exprCode (suc (F Γ)) h n e) _ k λ b₁ k₁ k₂.
+  sim-pairs (R.pair t e ps) n {h = h} k f pc r = cut Γ (exprCode (suc (F Γ)) h n e) _ k λ b₁ k₁ k₂.
       cut Γ (targetCode (suc (F Γ)) h (n + exprLabels e) t) _ k₂ λ b₂ k₃ k₄.
       in-a-step Γ (then Γ (le-refl h) (ih .evaluate e n k₁ (f .0) pc r) λ y s₁ v₁ x₁ y₁.
       sim-target (n + exprLabels e) (y₁ .at) (y₁ .has) (x₁ .rel) _

@@ -38,8 +38,7 @@ module _ (Γ : Env) {p h : ℕ} {s : State} {v : Mach} (r : Rel Γ p h s v) wher
   pub new-word : (w : ℕ) → getD (v .mem) (p + h) 0 ≡ w → p + (h + 1) ≤ Γ .limit → (u : State) → Like (put (p + h) (holds w) (step s)) u
       → Sim Γ 0 p h (h + 1) s v u v
   new-word w e l u like =
-      open-scope Γ r l (omega arith)
-      (λ a k. like .cells a ∙ put-other Γ s (p + h) (holds w) a (λ q. omega arith))
+      open-scope Γ r l (omega arith) (λ a k. like .cells a ∙ put-other Γ s (p + h) (holds w) a (λ q. omega arith))
       (λ a y k g. let t = sym (like .cells a) ∙ g in
       by-equal a (p + h) (λ q. let z : holds w ≡ holds y = sym (put-same Γ s (p + h) (holds w)) ∙ (rw q at t) in rw q (e ∙ (cc)))
       (λ q. absurd (gone-holds (r .above a k) (sym (put-other Γ s (p + h) (holds w) a q) ∙ t))))
@@ -58,8 +57,7 @@ module _ (Γ : Env) {p h : ℕ} {s : State} {v : Mach} (r : Rel Γ p h s v) wher
       by-order (p + h + 1 + n) a (λ d. absurd (gone-holds (vector-above (p + h + 1) n s a d ∙ r .above a k) o)) (λ d.
       let z : unset ≡ holds y = sym (vector-at (p + h + 1) n s a (omega arith) d) ∙ o in contradiction cc)))
       (λ a k. like .cells a ∙ put-other Γ vs (p + h) (holds (p + h + 1)) a (λ q. omega arith) ∙ vector-above (p + h + 1) n s a (omega arith)
-      ∙ r .above a (omega arith))
-      (like .output) (like .taken) (omega (arith, like .steps))
+      ∙ r .above a (omega arith)) (like .output) (like .taken) (omega (arith, like .steps))
     where
       vs : State
       vs = vectorWords (p + h + 1) n s
@@ -71,16 +69,14 @@ module _ (Γ : Env) (fits : Fits Γ) (q : Sem) (ih : Sims Γ q) where
       → Runs Γ Q t p h₀ h₃ s v (declared (Γ .limit) q ls p h s more)
   unfolding declared localsCode FormedL heightWith
   sim-locals R.noLocals n {s = s} {v = v} more le t9 k f pc r g = g s v r (pc ∙ at-end Γ k)
-  sim-locals (R.vector m ls) n {p = p} {h = h} {s = s} more le t9 k f pc r g =
-      cut-number Γ k λ b₁ i₁ k₁.
+  sim-locals (R.vector m ls) n {p = p} {h = h} {s = s} more le t9 k f pc r g = cut-number Γ k λ b₁ i₁ k₁.
       cut-number Γ k₁ λ b₂ i₂ k₂.
       reaching-on Γ p (h + 2 + m) (λ u. declared (Γ .limit) q ls p (h + 2 + m) u more) λ u like l.
       weaken Γ (in-a-step Γ (step-LP Γ (fits .sized) le (ticked Γ r) pc i₁ (omega (arith, fits .sized .slack, fits .sized .most)) λ v₁ r₁ c₁ a₁.
       step-SP Γ (fits .sized) le r₁ c₁ i₂ (le-refl h) (omega arith) λ v₂ r₂ c₂ _ g₂ _.
       let x₂ : Sim Γ 0 p h (h + 2 + m) (step s) v₂ u v₂ = new-vector Γ r₂ m (omega (arith, g₂, a₁)) l u like in
       after Γ le x₂ (sim-locals ls n more (omega arith) t9 k₂ (f .0) c₂ (x₂ .rel) g)) (omega arith)) (omega arith)
-  sim-locals (R.value e ls) n {p = p} {h = h} more le t9 k f pc r g =
-      cut Γ (exprCode (suc (F Γ)) h n e) _ k λ b₁ k₁ k₂.
+  sim-locals (R.value e ls) n {p = p} {h = h} more le t9 k f pc r g = cut Γ (exprCode (suc (F Γ)) h n e) _ k λ b₁ k₁ k₂.
       cut-number Γ k₂ λ b₂ i₂ k₃.
       weaken Γ (in-a-step Γ (then Γ le (ih .evaluate e n k₁ (f .0) pc r) λ y s₁ v₁ x₁ y₁.
       post-demand (y₁ .has) λ w ew.
@@ -91,8 +87,7 @@ module _ (Γ : Env) (fits : Fits Γ) (q : Sem) (ih : Sims Γ q) where
 
   pub sim-block : (ls : Locals) (cs : Cmds) → GoalC Γ q (R.block ls cs)
   unfolding executed cmdCode FormedC
-  sim-block ls cs p h n a b x s v k f pc r =
-      cut Γ (localsCode (suc (F Γ)) h n ls) _ k λ b₁ k₁ k₂.
+  sim-block ls cs p h n a b x s v k f pc r = cut Γ (localsCode (suc (F Γ)) h n ls) _ k λ b₁ k₁ k₂.
       let up : h ≤ heightWith h ls = height-more h ls in
       close-scope Γ up (in-a-step Γ (sim-locals ls n (λ t. sequence q cs p (heightWith h ls) t) (le-refl h) (omega arith) k₁ (f .0) pc (ticked Γ r)
       λ u w r₁ c₁. lower Γ up (sim-sequence Γ fits q ih cs (n + localsLabels ls) k₂ (f .1) c₁ r₁)) (omega arith))

@@ -73,8 +73,7 @@ leaving-few : (w : ℕ) → OfCommand 0 2 (leaving w)
 unfolding exprLabels exprWords
 leaving-few w = by-leaving (OfCommand 0 2) w (omega arith) (omega arith) (omega arith) (omega arith) (omega arith)
 
-guard-few : (e : Expr) (c : Cmd) (sense a b : Bool)
-    → OfCommand (2 + exprLabels e + cmdLabels c) (4 + exprWords e + cmdWords c)
+guard-few : (e : Expr) (c : Cmd) (sense a b : Bool) → OfCommand (2 + exprLabels e + cmdLabels c) (4 + exprWords e + cmdWords c)
     (cond a (R.while true e c) (cond b (R.while false e c) (R.when sense e c)))
 unfolding exprLabels exprWords
 guard-few e c sense a b =
@@ -84,8 +83,7 @@ unfoldable sideWords : Exprs → ℕ
 sideWords R.none = 0
 sideWords (R.and e es) = exprWords e + extra e + sideWords es
 
-pairs-few : (l r : Exprs)
-    → (pairsLabels (pairUp l r) ≤ exprsLabels l + exprsLabels r) × (pairsWords (pairUp l r) ≤ sideWords l + sideWords r)
+pairs-few : (l r : Exprs) → (pairsLabels (pairUp l r) ≤ exprsLabels l + exprsLabels r) × (pairsWords (pairUp l r) ≤ sideWords l + sideWords r)
 unfolding exprLabels exprWords sideWords
 pairs-few R.none r = omega arith
 pairs-few (R.and e es) R.none = omega arith
@@ -119,8 +117,7 @@ module _ (strings : ℕ) (text : List ℕ) where
     count-x s h T.noSuffixes x f = omega arith
     count-x s h (T.call es ss) x f =
         omega (arith, count-x s h ss (R.call x (E.expressions text s (under ss h + 2) es)) (f .1), count-a s (under ss h + 2) es (f .0), sided x .two)
-    count-x s h (T.index d ss) x f =
-        let g : ℕ = under ss h + 1 in
+    count-x s h (T.index d ss) x f = let g : ℕ = under ss h + 1 in
         omega (arith, count-x s h ss (R.index x (E.expression text s g d)) (f .1), count-e s g d (f .0), two s g d, sided x .two)
 
     count-o : (s : Scope) (h : ℕ) (os : Operations) (x : Expr) → FineOperations strings os
@@ -143,8 +140,7 @@ module _ (strings : ℕ) (text : List ℕ) where
     pub count-c : (s : Scope) (h : ℕ) (c : Command) → FineCommand strings c
         → (cmdLabels (E.command text s h c) + 1 ≤ commandTokens 3 c)
         × (cmdWords (E.command text s h c) + 8 * labelsTokens (labelsBefore c) ≤ 8 * commandTokens 1 c)
-    count-c s h (T.command ls u rs) f =
-        let z : 1 ≤ labelsTokens ls + started u = not-bare (f .3) in
+    count-c s h (T.command ls u rs) f = let z : 1 ≤ labelsTokens ls + started u = not-bare (f .3) in
         omega (arith, count-r s h rs (E.unlabelled text s h u) (f .2), count-u s h u (labelsTokens ls) (omega (arith, started-tokens 3 u)) (f .1))
 
     count-r : (s : Scope) (h : ℕ) (rs : Repeats) (x : Cmd) → FineRepeats strings rs
@@ -157,13 +153,11 @@ module _ (strings : ℕ) (text : List ℕ) where
     count-u : (s : Scope) (h : ℕ) (u : Unlabelled) (before : ℕ) → 1 ≤ before + unlabelledTokens 3 u → FineUnlabelled strings u
         → (cmdLabels (E.unlabelled text s h u) + 1 ≤ before + unlabelledTokens 3 u) × (cmdWords (E.unlabelled text s h u) ≤ 8 * unlabelledTokens 1 u)
     count-u s h T.empty b z f = omega arith
-    count-u s h (T.assignment left right) b z f =
-        omega
+    count-u s h (T.assignment left right) b z f = omega
         (arith, pairs-few (E.sides text s (h + 1) left) (E.sides text s h right), count-sides s (h + 1) left (f .0), count-sides s h right (f .1))
     count-u s h (T.callCommand e) b z f = omega (arith, count-e s h e (f .0))
     count-u s h (T.test e c d) b z f = omega (arith, count-e s h e (f .0), count-c s h c (f .1), count-c s h d (f .2))
-    count-u s h (T.guarded w e c) b z f =
-        let g = guard-few (E.expression text s h e) (E.command text s h c) (eqb w IF) (eqb w WHILE) (eqb w UNTIL) in
+    count-u s h (T.guarded w e c) b z f = let g = guard-few (E.expression text s h e) (E.command text s h c) (eqb w IF) (eqb w WHILE) (eqb w UNTIL) in
         omega (arith, g, count-e s h e (f .0), count-c s h c (f .1))
     count-u s h (T.for n e d k c) b z f =
         omega (arith, count-e s h e (f .0), count-e s (h + 1) d (f .1), count-c (declared (opened s) n (N.local h)) (h + 2) c (f .3))
@@ -177,8 +171,7 @@ module _ (strings : ℕ) (text : List ℕ) where
         → (localsLabels (E.locals text s h ls) ≤ localsTokens 3 ls) × (localsWords (E.locals text s h ls) ≤ 8 * localsTokens 1 ls)
     count-l s h T.noLocals f = omega arith
     count-l s h (T.vector n k ls) f = omega (arith, count-l (declared s n (N.local h)) (h + 2 + judgedWord (forVector text s k)) ls (f .1))
-    count-l s h (T.values ns es ls) f =
-        let g = values-few (E.expressions text s h es) (E.locals text (declareAll s h ns) (h + length ns) ls) in
+    count-l s h (T.values ns es ls) f = let g = values-few (E.expressions text s h es) (E.locals text (declareAll s h ns) (h + length ns) ls) in
         omega (arith, g, count-a s h es (f .0), count-l (declareAll s h ns) (h + length ns) ls (f .1))
 
     count-b : (s : Scope) (h : ℕ) (cs : Commands) → FineCommands strings cs
@@ -221,12 +214,11 @@ module _ (strings : ℕ) (text : List ℕ) where
       → Few (functionsTokens 3 fs) (functionsTokens 1 fs) (groupOf text k before s fs)
   unfolding groupOf resolved funs funLabels funWords functionsTokens FineFunctions
   few-group k before s [] f = omega arith
-  few-group k before s (x ∷ fs) f =
-      omega (
-        arith,
-        few-body (inside s x) (2 + length (x .parameters)) (x .body) (f .0 .body),
-        few-group (k + 1) (withFunction before (x .name) k (startOf (lookup text before (x .name)))) s fs (f .1),
-      )
+  few-group k before s (x ∷ fs) f = omega (
+    arith,
+    few-body (inside s x) (2 + length (x .parameters)) (x .body) (f .0 .body),
+    few-group (k + 1) (withFunction before (x .name) k (startOf (lookup text before (x .name)))) s fs (f .1),
+  )
 
   few-declaration : (w : Walk) (d : Declaration) → FineDeclaration strings d
       → Few (declarationTokens 3 d) (declarationTokens 1 d) (declarationFunctions text w d)
@@ -238,7 +230,6 @@ module _ (strings : ℕ) (text : List ℕ) where
   pub few-program : (w : Walk) (p : Program) → FineProgram strings p → Few (programTokens 3 p) (programTokens 1 p) (functionsFrom text w p)
   unfolding functionsFrom FineProgram programTokens funs funLabels funWords
   few-program w [] f = omega arith
-  few-program w (d ∷ ds) f =
-      let xs : List Named = declarationFunctions text w d in
+  few-program w (d ∷ ds) f = let xs : List Named = declarationFunctions text w d in
       let ys : List Named = functionsFrom text (afterDeclaration text w d) ds in
       omega (arith, few-declaration w d (f .0), few-program (afterDeclaration text w d) ds (f .1), few-both xs ys, length-append xs ys)

@@ -60,14 +60,12 @@ module _ (Γ : Env) where
         (acc : v .regs .a ≡ c) where
       sim-rdch : c ≡ 3 → p + h + 2 ≤ Γ .limit → Runs Γ (Valued Γ b) 4 p h h s v (received (Γ .input) s)
       unfolding MA.received
-      sim-rdch e l =
-          calls Γ (fits .sized) r pc i acc l λ v₁ cl.
+      sim-rdch e l = calls Γ (fits .sized) r pc i acc l λ v₁ cl.
           cut-number Γ (fits .rdch .1) λ b₁ i₁ k₁. cut-number Γ k₁ λ b₂ i₂ k₂. go v₁ cl b₁ i₁ b₂ i₂ (ltb (s .taken) (length (Γ .input))) refl
         where
           go : (v₁ : Mach) → Called Γ (fits .sized) p h b c s v v₁ → (b₁ : ℕ) → At Γ 3 7 false I.none 27 b₁ → (b₂ : ℕ) → At Γ b₁ 7 false I.none 4 b₂
               → (z : Bool) → ltb (s .taken) (length (Γ .input)) ≡ z → Runs Γ (Valued Γ b) 4 p h h s v (received (Γ .input) s)
-          go v₁ cl b₁ i₁ b₂ i₂ true t =
-              let g = do-X27 Γ v₁ (cl .rel .agree) (cl .at ∙ e) i₁ in
+          go v₁ cl b₁ i₁ b₂ i₂ true t = let g = do-X27 Γ v₁ (cl .rel .agree) (cl .at ∙ e) i₁ in
               let tk : v₁ .regs .taken ≡ s .taken = cl .rel .taken in
               let z : ltb (v₁ .regs .taken) (length (Γ .input)) ≡ true = rw tk t in
               rw t (returns Γ (fits .sized) r cl (le-refl 2) (λ a l g. g) refl
@@ -75,8 +73,7 @@ module _ (Γ : Env) where
               (cl .rel) (rw z at g) refl refl refl (rw tk (omega arith)) (cl .rel .bytes) (λ a. refl) refl) refl i₂
               (back-same r (λ a. refl)) λ v₃ x₃ c₃ a₃.
               weaken Γ (p-ok (record { v′ = v₃; sim = x₃; is = record { at = c₃; has = has-word (a₃ ∙ rw tk refl) } })) (omega arith))
-          go v₁ cl b₁ i₁ b₂ i₂ false t =
-              let g = do-X27 Γ v₁ (cl .rel .agree) (cl .at ∙ e) i₁ in
+          go v₁ cl b₁ i₁ b₂ i₂ false t = let g = do-X27 Γ v₁ (cl .rel .agree) (cl .at ∙ e) i₁ in
               let tk : v₁ .regs .taken ≡ s .taken = cl .rel .taken in
               let z : ltb (v₁ .regs .taken) (length (Γ .input)) ≡ false = rw tk t in
               rw t (returns Γ (fits .sized) r cl (le-refl 2) (λ a l g. g) refl
@@ -87,9 +84,7 @@ module _ (Γ : Env) where
       sim-wrch : (ws : List ℕ) → Holding (v .mem) ws (p + h + 2) → c ≡ 5 → p + h + 3 ≤ Γ .limit → (x : Option ℕ) → nth ws 0 ≡ x
           → Runs Γ (Valued Γ b) 4 p h h s v (sent x s)
       sim-wrch ws hold e l none z = p-undefined
-      sim-wrch ws hold e l (some w) z =
-          calls Γ (fits .sized) r pc i acc (omega arith) λ v₁ cl.
-          cut-number Γ (fits .wrch .1) λ b₁ i₁ k₁.
+      sim-wrch ws hold e l (some w) z = calls Γ (fits .sized) r pc i acc (omega arith) λ v₁ cl. cut-number Γ (fits .wrch .1) λ b₁ i₁ k₁.
           cut-number Γ k₁ λ b₂ i₂ k₂.
           cut-number Γ k₂ λ b₃ i₃ k₃.
           let m : p + h + 2 < length (Γ .image) = omega (arith, fits .sized .slack) in
@@ -109,19 +104,15 @@ module _ (Γ : Env) where
           → FormedF (F Γ) (S Γ) (2 + n) body → Rel Γ (p + h) (2 + n) (parameters (p + h) n ws s) v₁
           → Runs Γ (Valued Γ b) 4 p h h s v (runBody q body (p + h) (2 + n) (parameters (p + h) n ws s))
       unfolding bodyCode
-      sim-body (R.expression e) n m end ws {v₁} cl k fm r₁ =
-          cut Γ (exprCode (suc (F Γ)) (2 + n) m e) _ k λ b₁ k₁ k₂.
-          cut-number Γ k₂ λ b₂ i₂ k₃.
+      sim-body (R.expression e) n m end ws {v₁} cl k fm r₁ = cut Γ (exprCode (suc (F Γ)) (2 + n) m e) _ k λ b₁ k₁ k₂. cut-number Γ k₂ λ b₂ i₂ k₃.
           post-function (p + h) (part Γ fits q ih e m k₁ fm (cl .at) r₁)
           (λ x s₂ e₂. returns Γ (fits .sized) r cl (omega arith) (λ a l g. parameters-below (p + h) n ws s a l ∙ g) refl (e₂ .sim) (e₂ .is .at) i₂
           (back-forget Γ (fits .sized) (p + h) s₂) λ v₃ x₃ c₃ a₃.
           weaken Γ (p-ok (record { v′ = v₃; sim = x₃; is = record { at = c₃; has = has-same (e₂ .is .has) a₃ } })) (omega arith))
           (λ s₂ e₂. more-ends Γ (ends-in cl refl e₂) (omega arith))
-      sim-body (R.routine d) n m end ws {v₁} cl k fm r₁ =
-          cut Γ (cmdCode (suc (F Γ)) (2 + n) m nowhereElse d) _ k λ b₁ k₁ k₂.
+      sim-body (R.routine d) n m end ws {v₁} cl k fm r₁ = cut Γ (cmdCode (suc (F Γ)) (2 + n) m nowhereElse d) _ k λ b₁ k₁ k₂.
           cut-number Γ k₂ λ b₂ i₂ k₃.
-          post-routine (p + h) (ih .run d m k₁ fm (cl .at) r₁)
-          (λ s₂ e₂. at-end-of (e₂ .is) λ c₂.
+          post-routine (p + h) (ih .run d m k₁ fm (cl .at) r₁) (λ s₂ e₂. at-end-of (e₂ .is) λ c₂.
           returns Γ (fits .sized) r cl (omega arith) (λ a l g. parameters-below (p + h) n ws s a l ∙ g) refl (e₂ .sim) c₂ i₂
           (back-forget Γ (fits .sized) (p + h) s₂) λ v₃ x₃ c₃ a₃.
           weaken Γ (p-ok (record { v′ = v₃; sim = x₃; is = record { at = c₃; has = has-none } })) (omega arith))
@@ -138,20 +129,15 @@ module _ (Γ : Env) where
         → v .regs .a ≡ c
         → Holding (v .mem) ws (p + h + 2) → Runs Γ (Valued Γ b) 4 p h h s v (called (Γ .functions) (Γ .place) (Γ .limit) (Γ .input) q c (p + h) ws s)
     unfolding called
-    sim-called {p} {h} {a} {b} c ws {s} {v} r pc i acc hold =
-        post-cond (eqb c 3)
+    sim-called {p} {h} {a} {b} c ws {s} {v} r pc i acc hold = post-cond (eqb c 3)
         (λ e. reaching-in Γ (p + h) 2 (received (Γ .input)) λ u like l. sim-rdch (like-rel Γ like r) pc i acc (eqb-true c 3 e) l)
-        (λ e. post-cond (eqb c 5)
-        (λ e. reaching-in Γ (p + h) 3 (sent (nth ws 0)) λ u like l.
-        sim-wrch (like-rel Γ like r) pc i acc ws hold (eqb-true c 5 e) l (nth ws 0) refl)
-        (λ e. enters (positionOf c (Γ .place .entries) 0) refl))
+        (λ e. post-cond (eqb c 5) (λ e. reaching-in Γ (p + h) 3 (sent (nth ws 0)) λ u like l.
+        sim-wrch (like-rel Γ like r) pc i acc ws hold (eqb-true c 5 e) l (nth ws 0) refl) (λ e. enters (positionOf c (Γ .place .entries) 0) refl))
       where
         enters : (x : Option ℕ) → positionOf c (Γ .place .entries) 0 ≡ x
             → Runs Γ (Valued Γ b) 4 p h h s v (enterAt (Γ .functions) (Γ .limit) q x (p + h) ws s)
         enters none z = p-undefined
-        enters (some k) z =
-            let e = fits .entered c k z in
-            let n : ℕ = getD (Γ .functions) k noFun .parameters in
+        enters (some k) z = let e = fits .entered c k z in let n : ℕ = getD (Γ .functions) k noFun .parameters in
             reaching-in Γ (p + h) (2 + n) (λ t. runBody q (getD (Γ .functions) k noFun .body) (p + h) (2 + n) (parameters (p + h) n ws t)) λ u like l.
             calls Γ (fits .sized) (like-rel Γ like r) pc i acc (omega arith) λ v₁ cl.
             sim-body (like-rel Γ like r) pc i acc (getD (Γ .functions) k noFun .body) n (e .labels) (e .end) ws cl (e .code) (e .formed)
@@ -160,8 +146,7 @@ module _ (Γ : Env) where
 
     pub sim-call : (e : Expr) (es : Exprs) → GoalE Γ q (R.call e es)
     unfolding evaluated exprCode FormedE
-    sim-call e es p h n a b s v k f pc r =
-        cut Γ (exprsCode (suc (F Γ)) (h + 2) n es) _ k λ b₁ k₁ k₂.
+    sim-call e es p h n a b s v k f pc r = cut Γ (exprsCode (suc (F Γ)) (h + 2) n es) _ k λ b₁ k₁ k₂.
         cut Γ (exprCode (suc (F Γ)) (h + 2 + count es) (n + exprsLabels es) e) _ k₂ λ b₂ k₃ k₄.
         cut-number Γ k₄ λ b₃ i₃ k₅.
         weaken Γ (reaching Γ (h + 2) (λ t. arguments (Γ .limit) q es p (h + 2) t _) λ u like l.

@@ -72,9 +72,7 @@ module _ (Γ : Env) where
 
     pub sim-test : (e : Expr) (c d : Cmd) → GoalC q (R.test e c d)
     unfolding executed cmdCode FormedC
-    sim-test e c d p h n a b x s v k f pc r =
-        cut Γ (exprCode (suc (F Γ)) h (n + 2) e) _ k λ b₁ k₁ k₂.
-        cut-address Γ k₂ λ b₂ _ i₂ k₃.
+    sim-test e c d p h n a b x s v k f pc r = cut Γ (exprCode (suc (F Γ)) h (n + 2) e) _ k λ b₁ k₁ k₂. cut-address Γ k₂ λ b₂ _ i₂ k₃.
         cut Γ (cmdCode (suc (F Γ)) h (n + 2 + exprLabels e) x c) _ k₃ λ b₃ k₄ k₅.
         cut-address Γ k₅ λ b₄ _ i₄ k₆.
         cut-label Γ k₆ λ e₇ k₇.
@@ -83,8 +81,7 @@ module _ (Γ : Env) where
         in-a-step Γ (then Γ (le-refl h) (part Γ fits q ih e (n + 2) k₁ (f .0) pc (ticked Γ r)) λ y s₁ v₁ x₁ y₁.
         post-demand (y₁ .has) λ w ew.
         step-F Γ (fits .sized) (le-refl h) (x₁ .rel) (y₁ .at) i₂ λ v₂ r₂ c₂ _.
-        post-cond (isTrue w)
-        (λ t. let z : eqb (v₁ .regs .a) 0 ≡ false = rw ew (not-true (eqb w 0) t) in
+        post-cond (isTrue w) (λ t. let z : eqb (v₁ .regs .a) 0 ≡ false = rw ew (not-true (eqb w 0) t) in
         weaken Γ {t′ = 1} (ending Γ (le-refl h) (ih .run c (n + 2 + exprLabels e) k₄ (f .1) (rw z at c₂) r₂) λ g s₃ v₃ x₃ y₃.
         to-end g (x₃ .rel) y₃ λ c₃. step-J Γ (fits .sized) (le-refl h) (x₃ .rel) c₃ i₄ λ v₄ r₄ c₄ _ _.
         over Γ (le-refl h) r₄ (w-normal (c₄ ∙ e₉ ∙ at-end Γ l₉))) (omega arith))
@@ -94,16 +91,13 @@ module _ (Γ : Env) where
 
     pub sim-when : (sense : Bool) (e : Expr) (c : Cmd) → GoalC q (R.when sense e c)
     unfolding executed cmdCode FormedC
-    sim-when sense e c p h n a b x s v k f pc r =
-        cut Γ (exprCode (suc (F Γ)) h (n + 1) e) _ k λ b₁ k₁ k₂.
-        cut-address Γ k₂ λ b₂ _ i₂ k₃.
+    sim-when sense e c p h n a b x s v k f pc r = cut Γ (exprCode (suc (F Γ)) h (n + 1) e) _ k λ b₁ k₁ k₂. cut-address Γ k₂ λ b₂ _ i₂ k₃.
         cut Γ (cmdCode (suc (F Γ)) h (n + 1 + exprLabels e) x c) _ k₃ λ b₃ k₄ k₅.
         cut-label Γ k₅ λ e₆ k₆.
         in-a-step Γ (then Γ (le-refl h) (part Γ fits q ih e (n + 1) k₁ (f .0) pc (ticked Γ r)) λ y s₁ v₁ x₁ y₁.
         post-demand (y₁ .has) λ w ew.
         step-unless Γ (fits .sized) (le-refl h) (x₁ .rel) (y₁ .at) sense i₂ λ v₂ r₂ c₂ _.
-        post-cond (same sense (isTrue w))
-        (λ t. let c₃ : v₂ .regs .c ≡ b₂ = (rw ew at c₂) ∙ as-wanted sense (eqb w 0) _ b₂ t in
+        post-cond (same sense (isTrue w)) (λ t. let c₃ : v₂ .regs .c ≡ b₂ = (rw ew at c₂) ∙ as-wanted sense (eqb w 0) _ b₂ t in
         weaken Γ {t′ = 0} (ending Γ (le-refl h) (ih .run c (n + 1 + exprLabels e) k₄ (f .1) c₃ r₂) λ g s₃ v₃ x₃ y₃.
         to-end g (x₃ .rel) y₃ λ c₄. over Γ (le-refl h) (x₃ .rel) (w-normal (c₄ ∙ at-end Γ k₆))) (omega arith))
         (λ t. let c₃ : v₂ .regs .c ≡ Γ .lab n = (rw ew at c₂) ∙ not-wanted sense (eqb w 0) _ b₂ t in
@@ -111,36 +105,29 @@ module _ (Γ : Env) where
 
     pub sim-resultis : (e : Expr) → GoalC q (R.resultis e)
     unfolding executed cmdCode FormedC
-    sim-resultis e p h n a b x s v k f pc r =
-        cut Γ (exprCode (suc (F Γ)) h n e) _ k λ b₁ k₁ k₂.
-        cut-address Γ k₂ λ b₂ o₂ i₂ k₃.
+    sim-resultis e p h n a b x s v k f pc r = cut Γ (exprCode (suc (F Γ)) h n e) _ k λ b₁ k₁ k₂. cut-address Γ k₂ λ b₂ o₂ i₂ k₃.
         in-a-step Γ (then Γ (le-refl h) (part Γ fits q ih e n k₁ f pc (ticked Γ r)) λ y s₁ v₁ x₁ y₁.
         step-J Γ (fits .sized) (le-refl h) (x₁ .rel) (y₁ .at) i₂ λ v₂ r₂ c₂ a₂ _.
         over Γ (le-refl h) r₂ (w-gave o₂ c₂ (has-same (y₁ .has) a₂))) (omega arith)
 
     pub sim-break : GoalC q R.break
     unfolding executed cmdCode
-    sim-break p h n a b x s v k f pc r =
-        cut-address Γ k λ b₁ o₁ i₁ k₁.
+    sim-break p h n a b x s v k f pc r = cut-address Γ k λ b₁ o₁ i₁ k₁.
         in-a-step Γ (step-J Γ (fits .sized) (le-refl h) (ticked Γ r) pc i₁ λ v₂ r₂ c₂ _ _. over Γ (le-refl h) r₂ (w-broke o₁ c₂)) (omega arith)
 
     pub sim-loop : GoalC q R.loop
     unfolding executed cmdCode
-    sim-loop p h n a b x s v k f pc r =
-        cut-address Γ k λ b₁ o₁ i₁ k₁.
+    sim-loop p h n a b x s v k f pc r = cut-address Γ k λ b₁ o₁ i₁ k₁.
         in-a-step Γ (step-J Γ (fits .sized) (le-refl h) (ticked Γ r) pc i₁ λ v₂ r₂ c₂ _ _. over Γ (le-refl h) r₂ (w-looped o₁ c₂)) (omega arith)
 
     pub sim-endcase : GoalC q R.endcase
     unfolding executed cmdCode
-    sim-endcase p h n a b x s v k f pc r =
-        cut-address Γ k λ b₁ o₁ i₁ k₁.
+    sim-endcase p h n a b x s v k f pc r = cut-address Γ k λ b₁ o₁ i₁ k₁.
         in-a-step Γ (step-J Γ (fits .sized) (le-refl h) (ticked Γ r) pc i₁ λ v₂ r₂ c₂ _ _. over Γ (le-refl h) r₂ (w-ended o₁ c₂)) (omega arith)
 
     pub sim-return : GoalC q R.return
     unfolding executed cmdCode FormedC
-    sim-return p h n a b x s v k f pc r =
-        cut-number Γ k λ b₁ i₁ k₁.
-        let t : Sim Γ 0 p h h s v (step s) v
+    sim-return p h n a b x s v k f pc r = cut-number Γ k λ b₁ i₁ k₁. let t : Sim Γ 0 p h h s v (step s) v
         = record { n = 0; goes = leads-not (Γ .input) v; rel = ticked Γ r; keep = λ y l g. g; frame = λ y l g. refl; time = omega arith } in
         p-returned (record { h′ = h; v′ = v; sim = t; past = b₁; return = rw pc i₁ })
 
@@ -154,7 +141,6 @@ module _ (Γ : Env) where
         → v .regs .c ≡ a → Rel Γ p h s v → Runs Γ (Where Γ b x) 0 p h h s v (sequence q cs p h s)
     unfolding sequence cmdsCode FormedB
     sim-sequence R.noCmds n {h = h} k f pc r = over Γ (le-refl h) r (w-normal (pc ∙ at-end Γ k))
-    sim-sequence (R.andCmd c cs) n {h = h} {x = x} k f pc r =
-        cut Γ (cmdCode (suc (F Γ)) h n x c) _ k λ b₁ k₁ k₂.
+    sim-sequence (R.andCmd c cs) n {h = h} {x = x} k f pc r = cut Γ (cmdCode (suc (F Γ)) h n x c) _ k λ b₁ k₁ k₂.
         then Γ (le-refl h) (ih .run c n k₁ (f .0) pc r) λ g s₁ v₁ x₁ y₁.
         goes-on g _ (x₁ .rel) y₁ λ c₁. sim-sequence cs (n + cmdLabels c) k₂ (f .1) c₁ (x₁ .rel)

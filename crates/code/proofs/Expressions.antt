@@ -46,21 +46,13 @@ acts-cond false f g = g
 
 acts-dyadic : (o v w : ℕ) → ActsAs (dyadicAct o) (applyDyadic o v w) v w
 unfolding dyadicAct applyDyadic
-acts-dyadic o v w =
-    acts-cond (eqb o STAR) (acts-always mul v w refl)
-    (acts-cond (eqb o SLASH) (acts-unless quot v w refl)
-    (acts-cond (eqb o REM) (acts-unless rem v w refl)
-    (acts-cond (eqb o PLUS) (acts-always add v w refl)
-    (acts-cond (eqb o MINUS) (acts-always (Rattle.words.specs.Words.sub) v w refl)
-    (acts-cond (eqb o EQUAL) (acts-always eq v w refl)
-    (acts-cond (eqb o UNEQUAL) (acts-always ne v w refl)
-    (acts-cond (eqb o LESS) (acts-always lt v w refl)
-    (acts-cond (eqb o ATMOST) (acts-always le v w refl)
-    (acts-cond (eqb o MORE) (acts-always gt v w refl)
-    (acts-cond (eqb o ATLEAST) (acts-always ge v w refl)
-    (acts-cond (eqb o LEFT) (acts-always shl v w refl)
-    (acts-cond (eqb o RIGHT) (acts-always shr v w refl)
-    (acts-cond (eqb o AMPERSAND) (acts-always conj v w refl)
+acts-dyadic o v w = acts-cond (eqb o STAR) (acts-always mul v w refl) (acts-cond (eqb o SLASH) (acts-unless quot v w refl)
+    (acts-cond (eqb o REM) (acts-unless rem v w refl) (acts-cond (eqb o PLUS) (acts-always add v w refl)
+    (acts-cond (eqb o MINUS) (acts-always (Rattle.words.specs.Words.sub) v w refl) (acts-cond (eqb o EQUAL) (acts-always eq v w refl)
+    (acts-cond (eqb o UNEQUAL) (acts-always ne v w refl) (acts-cond (eqb o LESS) (acts-always lt v w refl)
+    (acts-cond (eqb o ATMOST) (acts-always le v w refl) (acts-cond (eqb o MORE) (acts-always gt v w refl)
+    (acts-cond (eqb o ATLEAST) (acts-always ge v w refl) (acts-cond (eqb o LEFT) (acts-always shl v w refl)
+    (acts-cond (eqb o RIGHT) (acts-always shr v w refl) (acts-cond (eqb o AMPERSAND) (acts-always conj v w refl)
     (acts-cond (eqb o BAR) (acts-always disj v w refl) (acts-none v w)))))))))))))))
 
 module _ (Γ : Env) where
@@ -93,18 +85,14 @@ module _ (Γ : Env) where
 
     pub sim-local : (x : ℕ) → GoalE q (R.local x)
     unfolding evaluated exprCode
-    sim-local x p h n a b s v k f pc r =
-        cut-number Γ k λ b₁ i₁ k₁.
-        post-read (s .cells (p + x)) s λ y g.
+    sim-local x p h n a b s v k f pc r = cut-number Γ k λ b₁ i₁ k₁. post-read (s .cells (p + x)) s λ y g.
         let l : p + x < p + h = live-below Γ r (p + x) (λ z. gone-holds z g) in
         weaken Γ (step-LIP Γ (fits .sized) (le-refl h) r pc i₁ (omega (arith, r .room)) λ w r₁ c₁ e₁ _ _.
         done r₁ c₁ k₁ (has-word (e₁ ∙ r .vals (p + x) y g))) (omega arith)
 
     pub sim-global : (x : ℕ) → GoalE q (R.global x)
     unfolding evaluated exprCode
-    sim-global x p h n a b s v k f pc r =
-        cut-number Γ k λ b₁ i₁ k₁.
-        post-read (s .cells (16 + x)) s λ y g.
+    sim-global x p h n a b s v k f pc r = cut-number Γ k λ b₁ i₁ k₁. post-read (s .cells (16 + x)) s λ y g.
         let l : 16 + x < p + h = live-below Γ r (16 + x) (λ z. gone-holds z g) in
         weaken Γ (step-LIG Γ (fits .sized) (le-refl h) r pc i₁ (omega (arith, r .room)) λ w r₁ c₁ e₁.
         done r₁ c₁ k₁ (has-word (e₁ ∙ r .vals (16 + x) y g))) (omega arith)
@@ -119,30 +107,23 @@ module _ (Γ : Env) where
 
     pub sim-addressOfLocal : (x : ℕ) → GoalE q (R.addressOfLocal x)
     unfolding evaluated exprCode FormedE
-    sim-addressOfLocal x p h n a b s v k f pc r =
-        cut-number Γ k λ b₁ i₁ k₁.
-        let l : x < h = f in
+    sim-addressOfLocal x p h n a b s v k f pc r = cut-number Γ k λ b₁ i₁ k₁. let l : x < h = f in
         weaken Γ (step-LP Γ (fits .sized) (le-refl h) r pc i₁ (omega (arith, r .room, fits .sized .slack, fits .sized .most)) λ w r₁ c₁ e₁.
         done r₁ c₁ k₁ (has-word e₁)) (omega arith)
 
     pub sim-addressOfGlobal : (x : ℕ) → GoalE q (R.addressOfGlobal x)
     unfolding evaluated exprCode FormedE
-    sim-addressOfGlobal x p h n a b s v k f pc r =
-        cut-number Γ k λ b₁ i₁ k₁.
-        let l : x < 400 = f in
+    sim-addressOfGlobal x p h n a b s v k f pc r = cut-number Γ k λ b₁ i₁ k₁. let l : x < 400 = f in
         weaken Γ (step-LG Γ (fits .sized) (le-refl h) r pc i₁ (omega arith) λ w r₁ c₁ e₁. done r₁ c₁ k₁ (has-word e₁)) (omega arith)
 
     pub sim-addressOfContents : (e : Expr) → GoalE q (R.addressOfContents e)
     unfolding evaluated exprCode FormedE
-    sim-addressOfContents e p h n a b s v k f pc r =
-        weaken Γ (then Γ (le-refl h) (part e n k f pc r) λ x s₁ v₁ x₁ y₁.
+    sim-addressOfContents e p h n a b s v k f pc r = weaken Γ (then Γ (le-refl h) (part e n k f pc r) λ x s₁ v₁ x₁ y₁.
         post-demand (y₁ .has) λ w a₁. over Γ (le-refl h) (x₁ .rel) (record { at = y₁ .at; has = has-word a₁ })) (omega arith)
 
     pub sim-contents : (e : Expr) → GoalE q (R.contents e)
     unfolding evaluated exprCode FormedE
-    sim-contents e p h n a b s v k f pc r =
-        cut Γ (exprCode (suc (F Γ)) h n e) _ k λ b₁ k₁ k₂.
-        cut-number Γ k₂ λ b₂ i₂ k₃.
+    sim-contents e p h n a b s v k f pc r = cut Γ (exprCode (suc (F Γ)) h n e) _ k λ b₁ k₁ k₂. cut-number Γ k₂ λ b₂ i₂ k₃.
         weaken Γ (then Γ (le-refl h) (part e n k₁ f pc r) λ x s₁ v₁ x₁ y₁.
         post-demand (y₁ .has) λ w a₁. post-read (s₁ .cells w) s₁ λ y g.
         step-X1 Γ (fits .sized) (le-refl h) (x₁ .rel) (y₁ .at) i₂ a₁ g λ v₂ r₂ c₂ a₂. done r₂ c₂ k₃ (has-word a₂)) (omega arith)
@@ -155,9 +136,7 @@ module _ (Γ : Env) where
         → ((c : ℕ) → Code Γ c rest b → (x y : ℕ) (u : State) (w : Mach) → Rel Γ p h u w → w .regs .c ≡ c → getD (w .mem) (p + h) 0 ≡ x
         → w .regs .a ≡ y → p + (h + 1) ≤ Γ .limit → Runs Γ Q t p h h u w (more x y u))
         → Runs Γ Q (1 + t) p h h s v (two (Γ .limit) q d e p h s more)
-    sim-two d e n {p = p} {h = h} more k f pc r g =
-        cut Γ (exprCode (suc (F Γ)) h n d) _ k λ b₁ k₁ k₂.
-        cut-number Γ k₂ λ b₂ i₂ k₄.
+    sim-two d e n {p = p} {h = h} more k f pc r g = cut Γ (exprCode (suc (F Γ)) h n d) _ k λ b₁ k₁ k₂. cut-number Γ k₂ λ b₂ i₂ k₄.
         cut Γ (exprCode (suc (F Γ)) (h + 1) (n + exprLabels d) e) _ k₄ λ b₃ k₃ k₅.
         weaken Γ (then Γ (le-refl h) (part d n k₁ (f .0) pc r) λ x s₁ v₁ x₁ y₁.
         reaching Γ (h + 1) (λ u. bind (q .evaluate e p (h + 1) u) _) λ u like l.
@@ -171,17 +150,13 @@ module _ (Γ : Env) where
 
     pub sim-addressOfIndex : (d e : Expr) → GoalE q (R.addressOfIndex d e)
     unfolding evaluated exprCode FormedE
-    sim-addressOfIndex d e p h n a b s v k f pc r =
-        weaken Γ (sim-two d e n _ k f pc r λ b₃ k₅ x y u w r₁ c₁ m₁ a₁ l.
-        cut-number Γ k₅ λ b₆ i₆ k₆.
+    sim-addressOfIndex d e p h n a b s v k f pc r = weaken Γ (sim-two d e n _ k f pc r λ b₃ k₅ x y u w r₁ c₁ m₁ a₁ l. cut-number Γ k₅ λ b₆ i₆ k₆.
         step-AIP Γ (fits .sized) (le-refl h) r₁ c₁ i₆ (omega arith) λ v₂ r₂ c₂ a₂ _.
         done r₂ c₂ k₆ (has-word (omega (arith, a₂, a₁, m₁)))) (omega arith)
 
     pub sim-index : (d e : Expr) → GoalE q (R.index d e)
     unfolding evaluated exprCode FormedE
-    sim-index d e p h n a b s v k f pc r =
-        weaken Γ (sim-two d e n _ k f pc r λ b₃ k₅ x y u w r₁ c₁ m₁ a₁ l.
-        cut-number Γ k₅ λ b₆ i₆ k₆.
+    sim-index d e p h n a b s v k f pc r = weaken Γ (sim-two d e n _ k f pc r λ b₃ k₅ x y u w r₁ c₁ m₁ a₁ l. cut-number Γ k₅ λ b₆ i₆ k₆.
         cut-number Γ k₆ λ b₇ i₇ k₇.
         post-read (u .cells (add x y)) u λ z g.
         step-AIP Γ (fits .sized) (le-refl h) r₁ c₁ i₆ (omega arith) λ v₂ r₂ c₂ a₂ _.
@@ -190,9 +165,7 @@ module _ (Γ : Env) where
 
     pub sim-binary : (o : ℕ) (d e : Expr) → GoalE q (R.binary o d e)
     unfolding evaluated exprCode FormedE
-    sim-binary o d e p h n a b s v k f pc r =
-        weaken Γ (sim-two d e n _ k f pc r λ b₃ k₅ x y u w r₁ c₁ m₁ a₁ l.
-        cut-number Γ k₅ λ b₆ i₆ k₆.
+    sim-binary o d e p h n a b s v k f pc r = weaken Γ (sim-two d e n _ k f pc r λ b₃ k₅ x y u w r₁ c₁ m₁ a₁ l. cut-number Γ k₅ λ b₆ i₆ k₆.
         cut-number Γ k₆ λ b₇ i₇ k₇.
         cut-number Γ k₇ λ b₈ i₈ k₈.
         cut-number Γ k₈ λ b₉ i₉ k₉.
@@ -208,16 +181,13 @@ module _ (Γ : Env) where
 
     pub sim-unary : (o : ℕ) (e : Expr) → GoalE q (R.unary o e)
     unfolding evaluated exprCode FormedE monadicAct applyMonadic
-    sim-unary o e p h n a b s v k f pc r =
-        cut Γ (exprCode (suc (F Γ)) h n e) _ k λ b₁ k₁ k₂.
+    sim-unary o e p h n a b s v k f pc r = cut Γ (exprCode (suc (F Γ)) h n e) _ k λ b₁ k₁ k₂.
         weaken Γ (then Γ (le-refl h) (part e n k₁ f pc r) λ x s₁ v₁ x₁ y₁.
         post-demand (y₁ .has) λ w a₁.
-        let acted : Runs Γ (Valued Γ b) 1 p h h s₁ v₁ (ok (word (applyMonadic o w)) s₁) =
-        by-cases (eqb o MINUS)
+        let acted : Runs Γ (Valued Γ b) 1 p h h s₁ v₁ (ok (word (applyMonadic o w)) s₁) = by-cases (eqb o MINUS)
         (λ m. cut-number Γ (rw m at k₂) λ b₃ i₃ k₃.
         rw m (step-X2 Γ (fits .sized) (le-refl h) (x₁ .rel) (y₁ .at) i₃ λ v₂ r₂ c₂ a₂. done r₂ c₂ k₃ (has-word (a₂ ∙ ap neg a₁))))
-        (λ m. by-cases (eqb o NOT)
-        (λ t. cut-number Γ (rw (m, t) at k₂) λ b₃ i₃ k₃.
+        (λ m. by-cases (eqb o NOT) (λ t. cut-number Γ (rw (m, t) at k₂) λ b₃ i₃ k₃.
         rw (m, t) (step-X3 Γ (fits .sized) (le-refl h) (x₁ .rel) (y₁ .at) i₃ λ v₂ r₂ c₂ a₂. done r₂ c₂ k₃ (has-word (a₂ ∙ ap complement a₁))))
         (λ t. rw (m, t) (weaken Γ (done (x₁ .rel) (y₁ .at) (rw (m, t) at k₂) (has-word a₁)) (omega arith)))) in
         acted) (omega arith)
@@ -233,7 +203,5 @@ module _ (Γ : Env) where
 
     pub sim-valof : (c : Cmd) → GoalE q (R.valof c)
     unfolding evaluated exprCode FormedE
-    sim-valof c p h n a b s v k f pc r =
-        cut Γ (cmdCode (suc (F Γ)) h (n + 1) (inValof n) c) _ k λ b₁ k₁ k₂.
-        cut-label Γ k₂ λ e₂ k₃.
+    sim-valof c p h n a b s v k f pc r = cut Γ (cmdCode (suc (F Γ)) h (n + 1) (inValof n) c) _ k λ b₁ k₁ k₂. cut-label Γ k₂ λ e₂ k₃.
         weaken Γ (then Γ (le-refl h) (ih .run c (n + 1) k₁ f pc r) λ w s₁ v₁ x₁ y₁. valof-end w (x₁ .rel) y₁ e₂ (at-end Γ k₃)) (omega arith)

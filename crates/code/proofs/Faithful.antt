@@ -33,14 +33,11 @@ module _ (source : List ℕ) (good : Good source) (memory room first : ℕ) (acc
   -- the globals and the strings lie below the stack
   holding : Holds (stringsIn source) (placementOf source (assembled (textOf source) memory room .table) first) s
   unfolding image table
-  holding =
-      let fs : List Fun = functionsIn source in
+  holding = let fs : List Fun = functionsIn source in
       let ss : List (List ℕ) = stringsIn source in
       record {
         globals = λ n l. ended-globals fs ss _ memory input (runs .fuel) s (runs .over) n l (omega (arith, stands .past-start));
-        constants = λ k i l m.
-            let above = W.string-above stands k l in
-            let below = W.string-below stands k l in
+        constants = λ k i l m. let above = W.string-above stands k l in let below = W.string-below stands k l in
             ended-strings fs ss _ memory input (runs .fuel) s (runs .over) k i l (addresses-length table (suc (length fs)) (length ss)) m
             (omega arith) (omega arith);
       }

@@ -15,8 +15,7 @@ use Rattle.language.proofs.Formed.{FormedE, FormedC, FormedF}
 
 -- a FOR's code from its test on, with labels n, n + 1 and n + 2, and its body's from n′
 abbrev pub forCode : (strings h n n′ : ℕ) → Exits → (by : ℕ) → Cmd → List Item
-forCode strings h n n′ x by c =
-    label n ∷ LIP h ∷ LIP (h + 1) ∷ X (limitAct by) ∷ FL (n + 2) ∷ cmdCode strings (h + 2) n′ (inLoop (n + 1) (n + 2) x) c
+forCode strings h n n′ x by c = label n ∷ LIP h ∷ LIP (h + 1) ∷ X (limitAct by) ∷ FL (n + 2) ∷ cmdCode strings (h + 2) n′ (inLoop (n + 1) (n + 2) x) c
     ++ (label (n + 1) ∷ LIP h ∷ A by ∷ SP h ∷ JL n ∷ label (n + 2) ∷ [])
 
 module _ (Γ : Env) where

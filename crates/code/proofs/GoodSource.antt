@@ -34,8 +34,7 @@ use Rattle.code.proofs.WellPlaced.{well-placed}
 greatest-low : (x : ℕ) (hs : List ℕ) → greatest x hs ≤ 8192 → (x ≤ 8192) × Low hs
 unfolding greatest Low
 greatest-low x [] l = (l, tt)
-greatest-low x (h ∷ hs) l =
-    let p = greatest-low (cond (ltb x h) h x) hs l in
+greatest-low x (h ∷ hs) l = let p = greatest-low (cond (ltb x h) h x) hs l in
     by-order x h (λ m. let k : h ≤ 8192 = rw (lt-ltb x h m) at (p .0) in (omega arith, (k, p .1))) (λ m.
     let k : x ≤ 8192 = rw (le-ltb x h m) at (p .0) in (k, (omega arith, p .1)))
 
@@ -45,8 +44,7 @@ heights-low f l = let p = greatest-low 0 ((2 + f .parameters) ∷ ofBody (2 + f 
 
 first-low : (n : Named) (ns : List Named) → heightFaults (n ∷ ns) ≡ [] → (largestHeight (n .fun) ≤ 8192) × (heightFaults ns ≡ [])
 unfolding heightFaults
-first-low n ns h =
-    by-order 8192 (largestHeight (n .fun))
+first-low n ns h = by-order 8192 (largestHeight (n .fun))
     (λ l. let z : fault (n .name .place) 16 ++ heightFaults ns ≡ [] = rw (lt-ltb 8192 (largestHeight (n .fun)) l) at h in contradiction cc)
     (λ l. (l, rw (le-ltb 8192 (largestHeight (n .fun)) l) at h))
 
@@ -63,8 +61,7 @@ module _ (T functions strings : ℕ) (few : suc functions + strings ≤ T) where
       → heightFaults ns ≡ [] → Sounds T (functionsCode (suc functions) l n (funs ns))
   unfolding functionsCode funs funLabels AllFormed
   functions-sound l n [] a b f h = s-none
-  functions-sound l n (x ∷ ns) a b f h =
-      let p = first-low x ns h in
+  functions-sound l n (x ∷ ns) a b f h = let p = first-low x ns h in
       let q = heights-low (x .fun) (p .0) in
       s-more {x = I.label l} (record { first = a .one; last = omega (arith, a .room) })
       (sounds-both (body-sound (2 + x .fun .parameters) n (x .fun .body) (q .0) (span (b .one) (omega (arith, b .room))) (f .0) (q .1) (f .3))
@@ -115,11 +112,9 @@ module _ (source : List ℕ) (x : Facts source) where
 
   pub items-sound : Sounds total (itemsOf (funs ns) (stringsIn source))
   unfolding itemsOf
-  items-sound =
-      let e : length (funs ns) ≡ length ns = length-funs ns in
+  items-sound = let e : length (funs ns) ≡ length ns = length-funs ns in
       sounds-both (functions-sound total (length (funs ns)) S (omega arith) 1 (suc (length (funs ns)) + S) ns (span (omega arith) (omega arith))
-      (span (omega arith) (omega arith)) all-formed no-heights)
-      (sounds-both (strings-sounds (span (omega arith) (omega arith)))
+      (span (omega arith) (omega arith)) all-formed no-heights) (sounds-both (strings-sounds (span (omega arith) (omega arith)))
       (starts-sound total (length (funs ns)) S (omega arith) 1 ns (span (omega arith) (omega arith)) all-formed))
     where
       strings-sounds : Span total (suc (length (funs ns))) S → Sounds total (stringsCode (suc (length (funs ns))) (stringsIn source))

@@ -34,14 +34,12 @@ one-digit (suc k) n h = rw (lt-ltb n 10 h) (omega arith)
 more-digits : (m c : ℕ) → ((k n : ℕ) → n < m → length (numeral k n) ≤ c) → (k n : ℕ) → n < 10 * m → length (numeral k n) ≤ suc c
 unfolding numeral
 more-digits m c f zero n h = omega arith
-more-digits m c f (suc k) n h =
-    by-cases (ltb n 10) (λ outcome. rw outcome (omega arith))
+more-digits m c f (suc k) n h = by-cases (ltb n 10) (λ outcome. rw outcome (omega arith))
     (λ outcome. rw outcome (omega (arith, length-append (numeral k (n / 10)) ((48 + n % 10) ∷ []), f k (n / 10) (omega arith))))
 
 five-digits : (n : ℕ) → n ≤ 65536 → length (numeralOf n) ≤ 5
 unfolding numeralOf
-five-digits n h =
-    more-digits 10000 4 (λ k m j. more-digits 1000 3 (λ k m j.
+five-digits n h = more-digits 10000 4 (λ k m j. more-digits 1000 3 (λ k m j.
     more-digits 100 2 (λ k m j. more-digits 10 1 one-digit k m (omega arith)) k m (omega arith)) k m (omega arith)) (suc n) n (omega arith)
 
 operand-short : (x : Operand) → SoundOperand x → length (operandText x) ≤ 6
@@ -93,8 +91,7 @@ besides xs = sum 0 aside 13 (λ _. 0) xs
 line-short : (x : Item) → Sound x → length (render x) + 1 ≤ 5 * most x + 7 * one 0 (λ _. 0) 0 number-of x + beside x
 unfolding render
 line-short (label n) h = omega (arith, length-append (numeralOf n) (58 ∷ []), five-digits n h)
-line-short (instruction f t b x) h =
-    let l = length-append (indirectText t) (baseText b ++ operandText x) in
+line-short (instruction f t b x) h = let l = length-append (indirectText t) (baseText b ++ operandText x) in
     omega (arith, l, length-append (baseText b) (operandText x), indirect-short t, base-short b, operand-short x (h .sound))
 line-short (constant x) h = omega (arith, operand-short x h)
 line-short (I.string cs) h = omega (arith, length-append (charactersText cs) (34 ∷ []), characters-short cs)
@@ -125,8 +122,7 @@ words-bytes (cs ∷ ss) = omega (arith, words-bytes ss, length-pairs (length cs)
 
 pub short : (source : List ℕ) (scratch : ℕ) → refusalOf source scratch ≡ accepted → length (textOf source) ≤ 60 * length source + 4
 unfolding textOf ns
-short source scratch a =
-    let x : Facts source = facts source scratch a in
+short source scratch a = let x : Facts source = facts source scratch a in
     let is : List Item = itemsOf (functionsIn source) (stringsIn source) in
     let strings : stringBytes (stringsIn source) ≤ length source = rw (x .strings, same-now source) (string-bytes source) in
     let functions : length (functionsIn source) ≡ length (ns source x) = rw (x .functions) (length-funs (ns source x)) in

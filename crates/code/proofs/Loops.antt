@@ -58,9 +58,7 @@ module _ (Γ : Env) where
   module _ (fits : Fits Γ) (q : Sem) (ih : Sims Γ q) where
     pub turn-while : (sense : Bool) (e : Expr) (c : Cmd) → GoalT q (whiling sense e c)
     unfolding turned cmdCode FormedC
-    turn-while sense e c p h a b x s v (at-while n k f) pc r =
-        cut-label Γ k λ e₀ k₀.
-        cut Γ (exprCode (suc (F Γ)) h (n + 2) e) _ k₀ λ b₁ k₁ k₂.
+    turn-while sense e c p h a b x s v (at-while n k f) pc r = cut-label Γ k λ e₀ k₀. cut Γ (exprCode (suc (F Γ)) h (n + 2) e) _ k₀ λ b₁ k₁ k₂.
         cut-address Γ k₂ λ b₂ _ i₂ k₃.
         cut Γ (cmdCode (suc (F Γ)) h (n + 2 + exprLabels e) (inLoop n (n + 1) x) c) _ k₃ λ b₄ k₄ k₅.
         cut-address Γ k₅ λ b₆ _ i₆ k₆.
@@ -68,11 +66,9 @@ module _ (Γ : Env) where
         in-a-step Γ (then Γ (le-refl h) (ih .evaluate e (n + 2) k₁ (f .0) pc r) λ y s₁ v₁ x₁ y₁.
         post-demand (y₁ .has) λ w ew.
         step-unless Γ (fits .sized) (le-refl h) (x₁ .rel) (y₁ .at) sense i₂ λ v₂ r₂ c₂ _.
-        post-cond (same sense (isTrue w))
-        (λ t. let c₃ : v₂ .regs .c ≡ b₂ = (rw ew at c₂) ∙ as-wanted sense (eqb w 0) _ b₂ t in
+        post-cond (same sense (isTrue w)) (λ t. let c₃ : v₂ .regs .c ≡ b₂ = (rw ew at c₂) ∙ as-wanted sense (eqb w 0) _ b₂ t in
         in-a-step Γ (then Γ (le-refl h) (ih .run c (n + 2 + exprLabels e) k₄ (f .1) c₃ (ticked Γ r₂)) λ g s₃ v₃ x₃ y₃.
-        comes-round g _ (x₃ .rel) y₃ (e₇ ∙ at-end Γ k₇)
-        (λ c₄. weaken Γ {t′ = 1} (step-J Γ (fits .sized) (le-refl h) (x₃ .rel) c₄ i₆ λ v₅ r₅ c₅ _ _.
+        comes-round g _ (x₃ .rel) y₃ (e₇ ∙ at-end Γ k₇) (λ c₄. weaken Γ {t′ = 1} (step-J Γ (fits .sized) (le-refl h) (x₃ .rel) c₄ i₆ λ v₅ r₅ c₅ _ _.
         ih .turn (whiling sense e c) (at-while n k f) (c₅ ∙ e₀) r₅) (omega arith))
         (λ c₄. weaken Γ {t′ = 1} (ih .turn (whiling sense e c) (at-while n k f) (c₄ ∙ e₀) (x₃ .rel)) (omega arith))) (omega arith))
         (λ t. let c₃ : v₂ .regs .c ≡ Γ .lab (n + 1) = (rw ew at c₂) ∙ not-wanted sense (eqb w 0) _ b₂ t in
@@ -80,8 +76,7 @@ module _ (Γ : Env) where
 
     pub turn-repeat : (c : Cmd) → GoalT q (repeating c)
     unfolding turned cmdCode FormedC
-    turn-repeat c p h a b x s v (at-repeat n k f) pc r =
-        cut-label Γ k λ e₀ k₀.
+    turn-repeat c p h a b x s v (at-repeat n k f) pc r = cut-label Γ k λ e₀ k₀.
         cut Γ (cmdCode (suc (F Γ)) h (n + 3) (inLoop (n + 1) (n + 2) x) c) _ k₀ λ b₁ k₁ k₂.
         cut-label Γ k₂ λ e₃ k₃.
         cut-address Γ k₃ λ b₄ _ i₄ k₄.
@@ -93,8 +88,7 @@ module _ (Γ : Env) where
 
     pub turn-repeatWhile : (sense : Bool) (c : Cmd) (e : Expr) → GoalT q (repeatingWhile sense c e)
     unfolding turned cmdCode FormedC
-    turn-repeatWhile sense c e p h a b x s v (at-repeatWhile n k f) pc r =
-        cut-label Γ k λ e₀ k₀.
+    turn-repeatWhile sense c e p h a b x s v (at-repeatWhile n k f) pc r = cut-label Γ k λ e₀ k₀.
         cut Γ (cmdCode (suc (F Γ)) h (n + 3) (inLoop (n + 1) (n + 2) x) c) _ k₀ λ b₁ k₁ k₂.
         cut-label Γ k₂ λ e₃ k₃.
         cut Γ (exprCode (suc (F Γ)) h (n + 3 + cmdLabels c) e) _ k₃ λ b₄ k₄ k₅.
@@ -105,8 +99,7 @@ module _ (Γ : Env) where
         = λ c₄. in-a-step Γ (then Γ (le-refl h) (ih .evaluate e (n + 3 + cmdLabels c) k₄ (f .1) c₄ (x₃ .rel)) λ y s₅ v₅ x₅ y₅.
         post-demand (y₅ .has) λ w ew.
         step-when Γ (fits .sized) (le-refl h) (x₅ .rel) (y₅ .at) sense i₆ λ v₆ r₆ c₆ _.
-        post-cond (same sense (isTrue w))
-        (λ t. let c₇ : v₆ .regs .c ≡ Γ .lab n = (rw ew at c₆) ∙ as-wanted sense (eqb w 0) b₆ _ t in
+        post-cond (same sense (isTrue w)) (λ t. let c₇ : v₆ .regs .c ≡ Γ .lab n = (rw ew at c₆) ∙ as-wanted sense (eqb w 0) b₆ _ t in
         ih .turn (repeatingWhile sense c e) (at-repeatWhile n k f) (c₇ ∙ e₀) r₆)
         (λ t. let c₇ : v₆ .regs .c ≡ b₆ = (rw ew at c₆) ∙ not-wanted sense (eqb w 0) b₆ _ t in
         over Γ (le-refl h) r₆ (w-normal (c₇ ∙ at-end Γ k₇)))) (omega arith) in
@@ -114,9 +107,7 @@ module _ (Γ : Env) where
 
     pub turn-for : (limit by : ℕ) (c : Cmd) → GoalT q (counting limit by c)
     unfolding turned
-    turn-for limit by c p h a b x s v (at-for n n′ k f lost kept) pc r =
-        cut-label Γ k λ e₀ k₀.
-        cut-number Γ k₀ λ b₁ i₁ k₁.
+    turn-for limit by c p h a b x s v (at-for n n′ k f lost kept) pc r = cut-label Γ k λ e₀ k₀. cut-number Γ k₀ λ b₁ i₁ k₁.
         cut-number Γ k₁ λ b₂ i₂ k₂.
         cut-number Γ k₂ λ b₃ i₃ k₃.
         cut-address Γ k₃ λ b₄ _ i₄ k₄.
@@ -139,8 +130,7 @@ module _ (Γ : Env) where
         step-dyadic Γ (fits .sized) (le-refl (h + 2)) r₂ c₂ (act .0) i₃ (act .1) val λ v₃ r₃ c₃ a₃ m₃.
         step-F Γ (fits .sized) (le-refl (h + 2)) r₃ c₃ i₄ λ v₄ r₄ c₄ m₄.
         let mem₄ : v₄ .mem ≡ v .mem = m₄ ∙ m₃ ∙ m₂ ∙ m₁ in
-        post-cond (onward by i limit)
-        (λ t. let c₅ : v₄ .regs .c ≡ b₄ = (rw a₃ at c₄) ∙ jump-on (onward by i limit) _ b₄ t in
+        post-cond (onward by i limit) (λ t. let c₅ : v₄ .regs .c ≡ b₄ = (rw a₃ at c₄) ∙ jump-on (onward by i limit) _ b₄ t in
         in-a-step Γ (then Γ (le-refl (h + 2)) (ih .run c n′ k₅ f c₅ (ticked Γ r₄)) λ g s₆ v₆ x₆ y₆.
         let lost₆ : s₆ .cells (p + (h + 1)) ≡ gone = x₆ .keep (p + (h + 1)) (omega arith) lost in
         let kept₆ : getD (v₆ .mem) (p + (h + 1)) 0 ≡ limit
@@ -152,11 +142,9 @@ module _ (Γ : Env) where
         let sum : v₈ .regs .a ≡ add j by = a₈ ∙ ap (λ (z : ℕ). add z by) (a₇ ∙ x₆ .rel .vals (p + h) j gj) in
         cell-P Γ (fits .sized) (le-refl (h + 2)) r₈ c₈ j₁ sum live λ v₉ r₉ c₉ o₉.
         step-J Γ (fits .sized) (le-refl (h + 2)) r₉ c₉ j₂ λ u₁ q₁ d₁ _ n₁.
-        ih .turn (counting limit by c)
-        (at-for n n′ k f (put-other Γ s₆ (p + h) (holds (add j by)) (p + (h + 1)) (λ z. omega arith) ∙ lost₆)
+        ih .turn (counting limit by c) (at-for n n′ k f (put-other Γ s₆ (p + h) (holds (add j by)) (p + (h + 1)) (λ z. omega arith) ∙ lost₆)
         (ap (λ (m : List ℕ). getD m (p + (h + 1)) 0) n₁ ∙ o₉ (p + (h + 1)) (λ z. omega arith) ∙ ap (λ (m : List ℕ). getD m (p + (h + 1)) 0)
-        (m₈ ∙ m₇) ∙ kept₆))
-        (d₁ ∙ e₀) q₁ in
+        (m₈ ∙ m₇) ∙ kept₆)) (d₁ ∙ e₀) q₁ in
         comes-round g _ (x₆ .rel) y₆ (f₃ ∙ at-end Γ l₃) round (λ c₆. round (c₆ ∙ e₇))) (omega arith))
         (λ t. let c₅ : v₄ .regs .c ≡ Γ .lab (n + 2) = (rw a₃ at c₄) ∙ jump-out (onward by i limit) _ b₄ t in
         over Γ (le-refl (h + 2)) r₄ (w-normal (c₅ ∙ f₃ ∙ at-end Γ l₃)))
@@ -175,9 +163,7 @@ module _ (Γ : Env) where
 
     pub sim-for : (first limit : Expr) (by : ℕ) (c : Cmd) → GoalC Γ q (R.for first limit by c)
     unfolding executed cmdCode FormedC
-    sim-for first limit by c p h n a b x s v k f pc r =
-        cut Γ (exprCode (suc (F Γ)) h (n + 3) first) _ k λ b₁ k₁ k₂.
-        cut-number Γ k₂ λ b₂ i₂ k₃.
+    sim-for first limit by c p h n a b x s v k f pc r = cut Γ (exprCode (suc (F Γ)) h (n + 3) first) _ k λ b₁ k₁ k₂. cut-number Γ k₂ λ b₂ i₂ k₃.
         cut Γ (exprCode (suc (F Γ)) (h + 1) (n + 3 + exprLabels first) limit) _ k₃ λ b₄ k₄ k₅.
         cut-number Γ k₅ λ b₆ i₆ k₆.
         let up : h ≤ h + 1 = omega arith in

@@ -112,69 +112,61 @@ module _ (a : ℕ) (g : List ℕ → ℕ) (k : ℕ) (u : ℕ → ℕ) where
 
         m-p : (h n : ℕ) (ps : Pairs) (m : ℕ) → n + pairsLabels ps ≡ m → Has n m (pairsWords ps) (sum (pairsCode strings h n ps))
         m-p h n R.noPairs m z = omega (arith, still n m (omega arith))
-        m-p h n (R.pair t e ps) m z =
-            simp sum-both
+        m-p h n (R.pair t e ps) m z = simp sum-both
             (omega (arith, m-e h n e _ refl, m-t h (n + exprLabels e) t _ refl, m-p h (n + exprLabels e + targetLabels t) ps m (omega arith)))
 
         m-c : (h n : ℕ) (x : Exits) (c : Cmd) (m : ℕ) → n + cmdLabels c ≡ m → Has n m (cmdWords c) (sum (cmdCode strings h n x c))
         m-c h n x R.empty m z = omega (arith, still n m (omega arith))
         m-c h n x (R.assign ps) m z = m-p h n ps m z
         m-c h n x (R.perform e) m z = m-e h n e m z
-        m-c h n x (R.test e c d) m z =
-            simp sum-both (omega (
-              arith,
-              m-e h (n + 2) e _ refl,
-              m-c h (n + 2 + exprLabels e) x c _ refl,
-              m-c h (n + 2 + exprLabels e + cmdLabels c) x d m (omega arith),
-              own n (n + 1) (omega arith),
-              own (n + 1) (n + 2) (omega arith),
-            ))
+        m-c h n x (R.test e c d) m z = simp sum-both (omega (
+          arith,
+          m-e h (n + 2) e _ refl,
+          m-c h (n + 2 + exprLabels e) x c _ refl,
+          m-c h (n + 2 + exprLabels e + cmdLabels c) x d m (omega arith),
+          own n (n + 1) (omega arith),
+          own (n + 1) (n + 2) (omega arith),
+        ))
         m-c h n x (R.when sense e c) m z =
             simp sum-both (omega (arith, m-e h (n + 1) e _ refl, m-c h (n + 1 + exprLabels e) x c m (omega arith), own n (n + 1) (omega arith)))
-        m-c h n x (R.while sense e c) m z =
-            simp sum-both (omega (
-              arith,
-              m-e h (n + 2) e _ refl,
-              m-c h (n + 2 + exprLabels e) (inLoop n (n + 1) x) c m (omega arith),
-              own n (n + 1) (omega arith),
-              own (n + 1) (n + 2) (omega arith),
-            ))
-        m-c h n x (R.repeat c) m z =
-            simp sum-both (omega (
-              arith,
-              m-c h (n + 3) (inLoop (n + 1) (n + 2) x) c m (omega arith),
-              own n (n + 1) (omega arith),
-              own (n + 1) (n + 2) (omega arith),
-              own (n + 2) (n + 3) (omega arith),
-            ))
-        m-c h n x (R.repeatWhile sense c e) m z =
-            simp sum-both (omega (
-              arith,
-              m-c h (n + 3) (inLoop (n + 1) (n + 2) x) c _ refl,
-              m-e h (n + 3 + cmdLabels c) e m (omega arith),
-              own n (n + 1) (omega arith),
-              own (n + 1) (n + 2) (omega arith),
-              own (n + 2) (n + 3) (omega arith),
-            ))
-        m-c h n x (R.for first limit by c) m z =
-            simp sum-both (omega (
-              arith,
-              m-e h (n + 3) first _ refl,
-              m-e (h + 1) (n + 3 + exprLabels first) limit _ refl,
-              m-c (h + 2) (n + 3 + exprLabels first + exprLabels limit) (inLoop (n + 1) (n + 2) x) c m (omega arith),
-              own n (n + 1) (omega arith),
-              own (n + 1) (n + 2) (omega arith),
-              own (n + 2) (n + 3) (omega arith),
-            ))
-        m-c h n x (R.switch e cs) m z =
-            let t : ℕ = n + exprLabels e + 1 in
-            simp sum-both (omega (
-              arith,
-              m-e h n e _ refl,
-              sum-table t cs,
-              m-s h t (t + commandsIn cs) (inSwitch (n + exprLabels e) x) cs _ m refl (omega arith),
-              own (n + exprLabels e) t (omega arith),
-            ))
+        m-c h n x (R.while sense e c) m z = simp sum-both (omega (
+          arith,
+          m-e h (n + 2) e _ refl,
+          m-c h (n + 2 + exprLabels e) (inLoop n (n + 1) x) c m (omega arith),
+          own n (n + 1) (omega arith),
+          own (n + 1) (n + 2) (omega arith),
+        ))
+        m-c h n x (R.repeat c) m z = simp sum-both (omega (
+          arith,
+          m-c h (n + 3) (inLoop (n + 1) (n + 2) x) c m (omega arith),
+          own n (n + 1) (omega arith),
+          own (n + 1) (n + 2) (omega arith),
+          own (n + 2) (n + 3) (omega arith),
+        ))
+        m-c h n x (R.repeatWhile sense c e) m z = simp sum-both (omega (
+          arith,
+          m-c h (n + 3) (inLoop (n + 1) (n + 2) x) c _ refl,
+          m-e h (n + 3 + cmdLabels c) e m (omega arith),
+          own n (n + 1) (omega arith),
+          own (n + 1) (n + 2) (omega arith),
+          own (n + 2) (n + 3) (omega arith),
+        ))
+        m-c h n x (R.for first limit by c) m z = simp sum-both (omega (
+          arith,
+          m-e h (n + 3) first _ refl,
+          m-e (h + 1) (n + 3 + exprLabels first) limit _ refl,
+          m-c (h + 2) (n + 3 + exprLabels first + exprLabels limit) (inLoop (n + 1) (n + 2) x) c m (omega arith),
+          own n (n + 1) (omega arith),
+          own (n + 1) (n + 2) (omega arith),
+          own (n + 2) (n + 3) (omega arith),
+        ))
+        m-c h n x (R.switch e cs) m z = let t : ℕ = n + exprLabels e + 1 in simp sum-both (omega (
+          arith,
+          m-e h n e _ refl,
+          sum-table t cs,
+          m-s h t (t + commandsIn cs) (inSwitch (n + exprLabels e) x) cs _ m refl (omega arith),
+          own (n + exprLabels e) t (omega arith),
+        ))
         m-c h n x (R.resultis e) m z = simp sum-both (omega (arith, m-e h n e m z))
         m-c h n x R.break m z = omega (arith, still n m (omega arith))
         m-c h n x R.loop m z = omega (arith, still n m (omega arith))
@@ -193,8 +185,7 @@ module _ (a : ℕ) (g : List ℕ → ℕ) (k : ℕ) (u : ℕ → ℕ) where
             → (u l + u m ≤ sum (casesCode strings h t n x cs) + u t + u n)
             × (sum (casesCode strings h t n x cs) + u t + u n ≤ a * casesWords cs + u l + u m)
         m-s h t n x R.noCases l m y z = omega (arith, still t l (omega arith), still n m (omega arith))
-        m-s h t n x (R.cases ls c cs) l m y z =
-            simp sum-both
+        m-s h t n x (R.cases ls c cs) l m y z = simp sum-both
             (omega (arith, own t (suc t) refl, m-c h n x c _ refl, m-s h (suc t) (n + cmdLabels c) x cs l m (omega arith) (omega arith)))
 
         m-l : (h n : ℕ) (ls : Locals) (m : ℕ) → n + localsLabels ls ≡ m → Has n m (localsWords ls) (sum (localsCode strings h n ls))
@@ -212,13 +203,12 @@ module _ (a : ℕ) (g : List ℕ → ℕ) (k : ℕ) (u : ℕ → ℕ) where
           × (sum (functionsCode strings t n fs) + u t + u n ≤ a * funWords fs + u l + u m)
       unfolding functionsCode funLabels funWords sum
       sum-functions t n [] l m y z = omega (arith, still t l (omega arith), still n m (omega arith))
-      sum-functions t n (f ∷ fs) l m y z =
-          simp sum-both (omega (
-            arith,
-            own t (suc t) refl,
-            m-body (2 + f .parameters) n (f .body) _ refl,
-            sum-functions (suc t) (n + bodyLabels (f .body)) fs l m (omega arith) (omega arith),
-          ))
+      sum-functions t n (f ∷ fs) l m y z = simp sum-both (omega (
+        arith,
+        own t (suc t) refl,
+        m-body (2 + f .parameters) n (f .body) _ refl,
+        sum-functions (suc t) (n + bodyLabels (f .body)) fs l m (omega arith) (omega arith),
+      ))
 
     sum-strings : (t : ℕ) (ss : List (List ℕ)) (l : ℕ) → t + length ss ≡ l → sum (stringsCode t ss) + u t ≡ textSum g ss + u l
     unfolding stringsCode textSum sum
@@ -238,14 +228,12 @@ module _ (a : ℕ) (g : List ℕ → ℕ) (k : ℕ) (u : ℕ → ℕ) where
     pub sum-items : (fs : List Fun) (ss : List (List ℕ)) (m : ℕ) → suc (length fs) + length ss + funLabels fs ≡ m
         → (u m ≤ sum (itemsOf fs ss) + u 1) × (sum (itemsOf fs ss) + u 1 ≤ a * funWords fs + textSum g ss + k * length fs + u m)
     unfolding itemsOf
-    sum-items fs ss m z =
-        let l : ℕ = suc (length fs) in
-        simp sum-both (omega (
-          arith,
-          sum-functions l 1 (l + length ss) fs l m (omega arith) z,
-          sum-strings l ss (l + length ss) refl,
-          sum-starts 1 fs,
-        ))
+    sum-items fs ss m z = let l : ℕ = suc (length fs) in simp sum-both (omega (
+      arith,
+      sum-functions l 1 (l + length ss) fs l m (omega arith) z,
+      sum-strings l ss (l + length ss) refl,
+      sum-starts 1 fs,
+    ))
 
 -- ---- three of them
 

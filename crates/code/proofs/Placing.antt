@@ -54,8 +54,7 @@ module _ {labels : List Label} {image : List ℕ} {at : ℕ} {p : Placed} {ps : 
 
   pub spot-word : (j : ℕ) → j < length (words (addressOf labels) (p .item)) → getD image (at + j) 0 ≡ getD (words (addressOf labels) (p .item)) j 0
   unfolding program
-  spot-word j l =
-      let e : image ≡ s .front ++ (words (addressOf labels) (p .item) ++ (program labels ps ++ s .rest))
+  spot-word j l = let e : image ≡ s .front ++ (words (addressOf labels) (p .item) ++ (program labels ps ++ s .rest))
       = s .is ∙ rw (append-assoc (words (addressOf labels) (p .item)) (program labels ps) (s .rest)) refl in
       rw (e, ← s .size) (getD-append-add (s .front) (words (addressOf labels) (p .item) ++ (program labels ps ++ s .rest)) j 0
       ∙ List·getD-append (words (addressOf labels) (p .item)) (program labels ps ++ s .rest) 0 j l)
@@ -78,8 +77,7 @@ module _ (memory room : ℕ) where
 
   noted-extends : (at : ℕ) (ls : List Label) (i : Item) {labels : List Label} → Extends (noted at ls i) labels → Extends ls labels
   unfolding noted
-  noted-extends at ls (label n) x =
-      record
+  noted-extends at ls (label n) x = record
       { more = record { number = n; address = at } ∷ x .more; is = x .is ∙ append-assoc ls (record { number = n; address = at } ∷ []) (x .more) }
   noted-extends at ls (instruction f i b o) x = x
   noted-extends at ls (constant o) x = x
@@ -88,8 +86,7 @@ module _ (memory room : ℕ) where
 
   pub lay-extends : (at : ℕ) (ls : List Label) (ps : List Placed) {labels : List Label} {end : ℕ} → Lays at ls ps labels end → Extends ls labels
   unfolding lay
-  lay-extends at ls [] {labels} {end} h =
-      let y : laid ls at ≡ laid labels end = h .is in
+  lay-extends at ls [] {labels} {end} h = let y : laid ls at ≡ laid labels end = h .is in
       let z : labels ≡ ls = cc in record { more = []; is = z ∙ sym (mathlib.Core.List.append-nil ls) }
   lay-extends at ls (p ∷ ps) h = noted-extends at ls (p .item) (lay-extends (at + size (p .item)) (noted at ls (p .item)) ps (lay-step h .1))
 
@@ -110,8 +107,7 @@ module _ (memory room : ℕ) where
       → Lays at ls (record { place = p; item = label n } ∷ ps) labels end
       → addressOf labels n ≡ at
   unfolding misplaced noted
-  label-found {at} {n} {ls} {labels} {p} {ps} h =
-      let s = lay-step h in
+  label-found {at} {n} {ls} {labels} {p} {ps} h = let s = lay-step h in
       let x : Extends (ls ++ (record { number = n; address = at } ∷ [])) labels
       = lay-extends (at + size (label n)) (ls ++ (record { number = n; address = at } ∷ [])) ps (s .1) in
       rw (x .is, append-assoc ls (record { number = n; address = at } ∷ []) (x .more))
@@ -139,8 +135,7 @@ module _ (memory room : ℕ) where
         → At Γ at f i base x (suc (suc at))
     at-long f x i base {at} l c₀ c₁ w₀ w₁ = record {
       small = l;
-      is = λ r m agree pc.
-          let o : at + 1 ≡ suc at = omega arith in
+      is = λ r m agree pc. let o : at + 1 ≡ suc at = omega arith in
           let g : getD m at 0 ≡ f * 8192 + indirectBit i + baseBit base + 512 = rw (add-zero at) at (agree .same (at + 0) (c₀ .0) ∙ w₀) in
           let k : getD m (suc at) 0 ≡ x = rw o at (agree .same (at + 1) (c₁ .0) ∙ w₁) in
           fetch-long r m pc (omega (arith, agree .size, c₀ .1)) g base x (long-bits f i base) (omega (arith, c₁ .1))
@@ -163,8 +158,7 @@ module _ (memory room : ℕ) where
     item-is {at} {ls = ls} (instruction f i base (number false k)) h s c =
         let k< = number-below false (no-fault-ranged memory room at ls (instruction f i base (number false k)) (lay-step h .0)) in
         let first = f * 8192 + indirectBit i + baseBit base in
-        by-cases (ltb k 512)
-        (λ e. let c′ : (j : ℕ) → j < 1 → (Γ .isCode (at + j) ≡ true) × (at + j < length (Γ .image)) = rw e at c in
+        by-cases (ltb k 512) (λ e. let c′ : (j : ℕ) → j < 1 → (Γ .isCode (at + j) ≡ true) × (at + j < length (Γ .image)) = rw e at c in
         let w′ : (j : ℕ) → j < 1 → getD (Γ .image) (at + j) 0 ≡ getD ((first + k) ∷ []) j 0 = rw e at (spot-word s) in
         rw e (is-to (is-number (at-short f k i base (ltb-true k 512 e) (c′ 0 (omega arith)) (w′ 0 (omega arith)))) (omega arith)))
         (λ e. let c′ : (j : ℕ) → j < 2 → (Γ .isCode (at + j) ≡ true) × (at + j < length (Γ .image)) = rw e at c in
@@ -177,8 +171,7 @@ module _ (memory room : ℕ) where
         let lt : Γ .lab l < 65536 = rw (lab-is l) (near l) in
         is-to (is-address (r .0) (at-long f (Γ .lab l) i base lt (c 0 (omega arith)) (c 1 (omega arith)) (spot-word s 0 (omega arith))
         (spot-word s 1 (omega arith) ∙ sym (lab-is l)))) (omega arith)
-    item-is {at} {ls = ls} (constant (number false k)) h s c =
-        let w : getD (Γ .image) at 0 ≡ k = rw (add-zero at) at (spot-word s 0 (omega arith)) in
+    item-is {at} {ls = ls} (constant (number false k)) h s c = let w : getD (Γ .image) at 0 ≡ k = rw (add-zero at) at (spot-word s 0 (omega arith)) in
         let o = rw (add-zero at) at (c 0 (omega arith)) in
         is-to (is-word (record { below = o .1; is = λ m agree. agree .same at (o .0) ∙ w }) refl) (omega arith)
     item-is {at} (constant (number true k)) h s c = is-negative

@@ -65,9 +65,7 @@ record Found (v : ℕ) (es : List ℕ) (i k : ℕ) : Type 0 where
 position-found : (v : ℕ) (es : List ℕ) (i k : ℕ) → positionOf v es i ≡ some k → Found v es i k
 unfolding positionOf
 position-found v [] i k h = contradiction cc
-position-found v (a ∷ es) i k h =
-    by-cases (eqb v a)
-    (λ e. let f : some i ≡ some k = rw e at h in let z : i ≡ k = cc in
+position-found v (a ∷ es) i k h = by-cases (eqb v a) (λ e. let f : some i ≡ some k = rw e at h in let z : i ≡ k = cc in
     record { at = 0; is = omega arith; within = omega arith; entry = sym (eqb-true v a e) })
     (λ e. let x = position-found v es (suc i) k (rw e at h) in
     record { at = suc (x .at); is = omega (arith, x .is); within = omega (arith, x .within); entry = x .entry })
@@ -140,13 +138,11 @@ module _ (Γ : Env) where
       → FunctionAt strings (Γ .lab (l + k)) (getD fs k noFun)
   unfolding functionsCode
   function-at strings [] l n k c h = absurd (omega arith)
-  function-at strings (f ∷ fs) l n zero c h =
-      cut-label Γ c λ e c₀.
+  function-at strings (f ∷ fs) l n zero c h = cut-label Γ c λ e c₀.
       cut Γ (bodyCode strings (2 + f .parameters) n (f .body)) _ c₀ λ b₁ c₁ c₂.
       cut-number Γ c₂ λ b₃ i₃ c₃.
       rw (add-zero l, e) (record { labels = n; end = b₃; code = code-append Γ c₁ (next (is-number i₃) (end refl)) })
-  function-at strings (f ∷ fs) l n (suc k) c h =
-      cut-label Γ c λ e c₀.
+  function-at strings (f ∷ fs) l n (suc k) c h = cut-label Γ c λ e c₀.
       cut Γ (bodyCode strings (2 + f .parameters) n (f .body)) _ c₀ λ b₁ c₁ c₂.
       cut-number Γ c₂ λ b₃ i₃ c₃.
       rw (add-shift l k) (function-at strings fs (suc l) (n + bodyLabels (f .body)) k c₃ (omega arith))
@@ -222,14 +218,12 @@ module _
 
   pub codeEnd-first : codeEnd ≤ first
   unfolding itemsOf
-  codeEnd-first =
-      let e : past 416 (fcode ++ rest) ≡ first = lays-end memory room 416 2 [] (fcode ++ rest) (b .lays) in
+  codeEnd-first = let e : past 416 (fcode ++ rest) ≡ first = lays-end memory room 416 2 [] (fcode ++ rest) (b .lays) in
       omega (arith, e, past-both 416 fcode rest, past-more codeEnd rest)
 
   pub strings-first : past codeEnd (stringsCode (suc (length fs)) ss) ≤ first
   unfolding itemsOf
-  strings-first =
-      let e : past 416 (fcode ++ rest) ≡ first = lays-end memory room 416 2 [] (fcode ++ rest) (b .lays) in
+  strings-first = let e : past 416 (fcode ++ rest) ≡ first = lays-end memory room 416 2 [] (fcode ++ rest) (b .lays) in
       let ws : List Item = stringsCode (suc (length fs)) ss in
       omega (arith, e, past-both 416 fcode rest, past-both codeEnd ws (startsCode 1 fs), past-more (past codeEnd ws) (startsCode 1 fs))
 
@@ -238,9 +232,7 @@ module _
 
   pub globals-are : globals (b .labels) noGlobals (places 2 (itemsOf fs ss)) ≡ globalsWith fs entries noGlobals
   unfolding itemsOf
-  globals-are =
-      globals-items (b .labels) noGlobals 2 (fcode ++ rest)
-      ∙ globals-both (b .labels) noGlobals fcode rest
+  globals-are = globals-items (b .labels) noGlobals 2 (fcode ++ rest) ∙ globals-both (b .labels) noGlobals fcode rest
       ∙ ap (λ (gs : List ℕ). globalsItems (b .labels) gs rest)
       (globals-plain (b .labels) noGlobals fcode (no-others (suc (length fs)) 1 (suc (length fs) + length ss) fs))
       ∙ globals-both (b .labels) noGlobals (stringsCode (suc (length fs)) ss) (startsCode 1 fs)
@@ -256,8 +248,7 @@ module _
 
   image-split : mem ≡ start ++ (globalsNow ++ (program (b .labels) (places 2 (itemsOf fs ss)) ++ replicate (memory - first) 0))
   unfolding image
-  image-split = b .image-is
-      ∙ append-assoc (start ++ globalsNow) (program (b .labels) (places 2 (itemsOf fs ss))) (replicate (memory - first) 0)
+  image-split = b .image-is ∙ append-assoc (start ++ globalsNow) (program (b .labels) (places 2 (itemsOf fs ss))) (replicate (memory - first) 0)
       ∙ append-assoc start globalsNow (program (b .labels) (places 2 (itemsOf fs ss)) ++ replicate (memory - first) 0)
 
   spot : Spot (b .labels) mem 416 (places 2 (itemsOf fs ss))
@@ -279,8 +270,7 @@ module _
   in-code x l h = rw (le-ltb x 16 (omega arith), le-leb 416 x l, lt-ltb x codeEnd h) refl
 
   pub code-below : (x : ℕ) → env .isCode x ≡ true → x < first
-  code-below x h =
-      by-order x 16 (λ l. omega (arith, b .past-start)) (λ l.
+  code-below x h = by-order x 16 (λ l. omega (arith, b .past-start)) (λ l.
       by-order x 416 (λ m. let z : false ≡ true = rw (le-ltb x 16 l, lt-leb 416 x m) at h in contradiction cc) (λ m.
       omega (arith, ltb-true x codeEnd (rw (le-ltb x 16 l, le-leb 416 x m) at h), codeEnd-first)))
 
@@ -334,8 +324,7 @@ module _
 
   low-at : (f x : ℕ) (i : Bool) (base : I.Base) (at : ℕ) → at < 16 → x < 512
       → getD start at 0 ≡ f * 8192 + indirectBit i + baseBit base + x → At env at f i base x (suc at)
-  low-at f x i base at l k e =
-      let z : at + 0 ≡ at = omega arith in
+  low-at f x i base at l k e = let z : at + 0 ≡ at = omega arith in
       let c : env .isCode (at + 0) ≡ true = rw (z, lt-ltb at 16 l) refl in
       at-short memory room env (b .labels) (λ n. refl) near len f x i base k (c, omega (arith, b .fills, b .least)) (rw z (low-word at l ∙ e))
 
@@ -359,8 +348,7 @@ module _
     sized = sized;
     entered = enters;
     functions = λ k h. sym (addresses-at table 1 (length fs) k h ∙ same-address (1 + k) (omega arith) ∙ ap (addressOf (b .labels)) (omega arith));
-    strings = λ k h.
-        let l : k < length ss = omega (arith, strings-count) in
+    strings = λ k h. let l : k < length ss = omega (arith, strings-count) in
         sym (addresses-at table (suc (length fs)) (length ss) k l ∙ same-address (suc (length fs) + k) (omega arith));
     rdch = (
       5,
@@ -376,8 +364,7 @@ module _
   }
     where
       enters : (v k : ℕ) → positionOf v entries 0 ≡ some k → Entered env v k
-      enters v k h =
-          let x = position-found v entries 0 k h in
+      enters v k h = let x = position-found v entries 0 k h in
           let l : k < length fs = omega (arith, x .is, x .within, addresses-length table 1 (length fs)) in
           let z : x .at ≡ k = omega (arith, x .is) in
           let e : addressOf (b .labels) (1 + k) ≡ v

@@ -50,8 +50,7 @@ abbrev point : ℕ → ℕ → ℕ
 point k n = cond (eqb n k) 1 0
 
 passed-point : (k n : ℕ) → passed k (suc n) - passed k n ≡ point k n
-passed-point k n =
-    by-order k n (λ l. rw (lt-ltb k n l, lt-ltb k (suc n) (omega arith), ne-eqb n k (λ e. omega arith)) refl) (λ l.
+passed-point k n = by-order k n (λ l. rw (lt-ltb k n l, lt-ltb k (suc n) (omega arith), ne-eqb n k (λ e. omega arith)) refl) (λ l.
     by-order n k (λ m. rw (le-ltb k n l, le-ltb k (suc n) m, ne-eqb n k (λ e. omega arith)) refl) (λ m.
     rw (le-ltb k n l, lt-ltb k (suc n) (omega arith), eq-eqb n k (omega arith)) refl))
 
@@ -76,15 +75,13 @@ times-marks k (I.global n m ∷ is) = omega (arith, times-marks k is)
 seen-none : (k : ℕ) (ns : List ℕ) → times k ns ≤ 0 → seen ns k ≡ false
 unfolding seen times
 seen-none k [] l = refl
-seen-none k (n ∷ ns) l =
-    by-cases (eqb n k) (λ e. let z : 1 + times k ns ≤ 0 = rw e at l in absurd (omega arith)) (λ e.
+seen-none k (n ∷ ns) l = by-cases (eqb n k) (λ e. let z : 1 + times k ns ≤ 0 = rw e at l in absurd (omega arith)) (λ e.
     let z : 0 + times k ns ≤ 0 = rw e at l in rw e (seen-none k ns (omega arith)))
 
 seen-some : (k : ℕ) (ns : List ℕ) → 1 ≤ times k ns → seen ns k ≡ true
 unfolding seen times
 seen-some k [] l = absurd (omega arith)
-seen-some k (n ∷ ns) l =
-    by-cases (eqb n k) (λ e. rw e refl) (λ e. let z : 1 ≤ 0 + times k ns = rw e at l in rw e (seen-some k ns (omega arith)))
+seen-some k (n ∷ ns) l = by-cases (eqb n k) (λ e. rw e refl) (λ e. let z : 1 ≤ 0 + times k ns = rw e at l in rw e (seen-some k ns (omega arith)))
 
 -- ---- labels that differ, and labels that are there
 
@@ -136,16 +133,14 @@ module _ (source : List ℕ) (x : Facts source) where
 
   often : (k : ℕ) → times k (labelsOf items) + passed k 1 ≡ passed k (total source x)
   unfolding items
-  often k =
-      rw (times-marks k (itemsOf (funs (ns source x)) (stringsIn source)))
+  often k = rw (times-marks k (itemsOf (funs (ns source x)) (stringsIn source)))
       (items-marks (passed k) (passed-up k) (funs (ns source x)) (stringsIn source) (total source x) all-labels)
 
   at-most-once : (k : ℕ) → times k (labelsOf items) ≤ 1
   at-most-once k = omega (arith, often k, by-cond (λ n. n ≤ 1) (ltb k (total source x)) {x = 1} {y = 0} (omega arith) (omega arith))
 
   once : (k : ℕ) → Within (total source x) k → seen (labelsOf items) k ≡ true
-  once k w =
-      let h : times k (labelsOf items) + 0 ≡ 1 = rw (le-ltb k 1 (w .first), lt-ltb k (total source x) (w .last)) at (often k) in
+  once k w = let h : times k (labelsOf items) + 0 ≡ 1 = rw (le-ltb k 1 (w .first), lt-ltb k (total source x) (w .last)) at (often k) in
       seen-some k (labelsOf items) (omega arith)
 
   same-items : itemsOf (functionsIn source) (stringsIn source) ≡ items
@@ -164,8 +159,7 @@ module _ (source : List ℕ) (x : Facts source) where
   items-count = rw same-items counted
 
   labels-most : labelCount (scan (renderAll items) .items) ≤ length source
-  labels-most =
-      rw (rendered items (all-sound (total source x) (total-low source x) items-right))
+  labels-most = rw (rendered items (all-sound (total source x) (total-low source x) items-right))
       (omega (arith, count-places 2 items, counted, few-in-all source x))
 
   none : (k : ℕ) → times k [] ≡ 0
@@ -173,8 +167,7 @@ module _ (source : List ℕ) (x : Facts source) where
   none k = refl
 
   items-only : (memory room : ℕ) (r : Refusal) → assembled (renderAll items) memory room .answer ≡ Refused r → (r .number ≡ 24) ⊎ (r .number ≡ 25)
-  items-only memory room r h =
-      rendered-only items (all-sound (total source x) (total-low source x) items-right)
+  items-only memory room r h = rendered-only items (all-sound (total source x) (total-low source x) items-right)
       (clean-all (total source x) (total-low source x) [] items items-right (λ k. omega (arith, at-most-once k, none k)))
       (known-all (total source x) (total-low source x) (labelsOf items) once items-right) memory room r h
 

@@ -144,8 +144,7 @@ module _ (Γ : Env) where
 
   pub after : {A : Type 0} {Q : A → Mach → Type 0} {t t′ p h h₁ h₂ h₃ : ℕ} {s s₁ : State} {v v₁ : Mach} {x : Result A} → h ≤ h₁
       → Sim t p h₁ h₂ s v s₁ v₁ → Runs Q t′ p h h₃ s₁ v₁ x → Runs Q (t + t′) p h h₃ s v x
-  after l y z =
-      post-map z (λ a s e. record { v′ = e .v′; sim = seq-sim l y (e .sim); is = e .is }) (λ s e. seq-leaves l y e)
+  after l y z = post-map z (λ a s e. record { v′ = e .v′; sim = seq-sim l y (e .sim); is = e .is }) (λ s e. seq-leaves l y e)
       (λ s e. ends-from (y .goes) (λ n m k. omega (arith, y .time)) e)
 
   -- ---- fewer instructions, and a lower start
@@ -169,8 +168,7 @@ module _ (Γ : Env) where
 
   loose : {A : Type 0} {Q : A → Mach → Type 0} {t t′ p h h₁ h₂ : ℕ} {s u : State} {v : Mach} {x : Result A} → Looser t t′ p h h₁ s u
       → Runs Q t p h₁ h₂ u v x → Runs Q t′ p h h₂ s v x
-  loose {v = v} q z =
-      post-map z (λ a s e. record { v′ = e .v′; sim = loose-sim q (e .sim); is = e .is }) (λ s e. loose-leaves q e)
+  loose {v = v} q z = post-map z (λ a s e. record { v′ = e .v′; sim = loose-sim q (e .sim); is = e .is }) (λ s e. loose-leaves q e)
       (λ s e. ends-from (leads-not (Γ .input) v) (λ n m k. omega (arith, q .1 n m k)) e)
 
   pub weaken : {A : Type 0} {Q : A → Mach → Type 0} {t t′ p h h₂ : ℕ} {s : State} {v : Mach} {x : Result A}
@@ -196,8 +194,7 @@ module _ (Γ : Env) where
       {f : A → State → Result B} → h ≤ h₁ → Runs Q t p h₁ h₂ s v x
       → ((a : A) (s₁ : State) (v₁ : Mach) → Sim t p h₁ h₂ s v s₁ v₁ → Q a v₁ → Runs Q′ t′ p h h₃ s₁ v₁ (f a s₁))
       → Runs Q′ (t + t′) p h h₃ s v (bind x f)
-  then l z g =
-      post-bind z (λ a s₁ e. after l (e .sim) (g a s₁ (e .v′) (e .sim) (e .is)))
+  then l z g = post-bind z (λ a s₁ e. after l (e .sim) (g a s₁ (e .v′) (e .sim) (e .is)))
       (λ s₁ e. loose-leaves (l, (λ n m k. omega arith), (λ a. refl)) e) (λ s₁ e. more-ends e (omega arith))
 
   -- the same where nothing more is run
@@ -263,11 +260,9 @@ module _ (Γ : Env) where
   pub reaching-in : {A : Type 0} {Q : A → Mach → Type 0} {t p h h₂ : ℕ} {s : State} {v : Mach} (base k : ℕ) (more : State → Result A)
       → ((u : State) → Like s u → base + k ≤ Γ .limit → Runs Q t p h h₂ u v (more u))
       → Runs Q t p h h₂ s v (reach (Γ .limit) base k s more)
-  reaching-in base k more f =
-      post-cond (leb (base + k) (Γ .limit))
+  reaching-in base k more f = post-cond (leb (base + k) (Γ .limit))
       (λ e. let q : Like _ _ = record { cells = λ a. refl; taken = refl; output = refl; steps = refl } in like-runs q
-      (f _ q (leb-true (base + k) (Γ .limit) e)))
-      (λ e. p-undefined)
+      (f _ q (leb-true (base + k) (Γ .limit) e))) (λ e. p-undefined)
 
   pub reaching : {A : Type 0} {Q : A → Mach → Type 0} {t p h h₂ : ℕ} {s : State} {v : Mach} (k : ℕ) (more : State → Result A)
       → ((u : State) → Like s u → p + k ≤ Γ .limit → Runs Q t p h h₂ u v (more u))
@@ -278,10 +273,8 @@ module _ (Γ : Env) where
   pub reaching-on : {A : Type 0} {Q : A → Mach → Type 0} {t p h h₂ : ℕ} {s s′ : State} {v : Mach} (base k : ℕ) (more : State → Result A)
       → ((u : State) → Like s′ u → base + k ≤ Γ .limit → Runs Q t p h h₂ s v (more u))
       → Runs Q t p h h₂ s v (reach (Γ .limit) base k s′ more)
-  reaching-on base k more f =
-      post-cond (leb (base + k) (Γ .limit))
-      (λ e. f _ (record { cells = λ a. refl; taken = refl; output = refl; steps = refl }) (leb-true (base + k) (Γ .limit) e))
-      (λ e. p-undefined)
+  reaching-on base k more f = post-cond (leb (base + k) (Γ .limit))
+      (λ e. f _ (record { cells = λ a. refl; taken = refl; output = refl; steps = refl }) (leb-true (base + k) (Γ .limit) e)) (λ e. p-undefined)
 
   -- ---- scopes
 
@@ -422,6 +415,5 @@ module _ (Γ : Env) where
       other x g = put-other s a (holds w) x (λ q. n (rw (← q) g)) ∙ g
 
       written : (x y : ℕ) → put a (holds w) s .cells x ≡ holds y → x ≡ a → getD (set (v .mem) a (v .regs .a)) x 0 ≡ y
-      written x y g q =
-          let k : holds w ≡ holds y = sym (put-same s a (holds w)) ∙ (rw q at g) in
+      written x y g q = let k : holds w ≡ holds y = sym (put-same s a (holds w)) ∙ (rw q at g) in
           rw q (getD-set-same (v .mem) a (v .regs .a) 0 (omega (arith, r .agree .size)) ∙ (cc))

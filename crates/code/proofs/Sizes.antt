@@ -43,7 +43,6 @@ items-words source x =
 pub few-words : (source : List ℕ) (scratch : ℕ) → refusalOf source scratch ≡ accepted
     → wordCount (Z.scan (textOf source) .items) ≤ 8 * length (scan source .symbols) + 16 + stringWords (stringsIn source)
 unfolding textOf
-few-words source scratch a =
-    let x : Facts source = facts source scratch a in
+few-words source scratch a = let x : Facts source = facts source scratch a in
     rw (rendered (itemsOf (functionsIn source) (stringsIn source)) (good source x .sound))
     (omega (arith, sizes-weigh 2 (itemsOf (functionsIn source) (stringsIn source)), items-words source x))

@@ -193,21 +193,17 @@ module _ (T functions strings : ℕ) (few : suc functions + strings ≤ T) where
     sound-e h n (R.addressOfLocal k) l m f w y = let z : k < h = f in item (omega arith) s-none
     sound-e h n (R.addressOfGlobal k) l m f w y = let z : k < 400 = f in item (omega arith) s-none
     sound-e h n (R.addressOfContents e) l m f w y = sound-e h n e l m f w y
-    sound-e h n (R.addressOfIndex a b) l m f w y =
-        sounds-both (sound-e h n a l (omega arith) (f .0) (search lows) (y .0)) (item (omega arith)
+    sound-e h n (R.addressOfIndex a b) l m f w y = sounds-both (sound-e h n a l (omega arith) (f .0) (search lows) (y .0)) (item (omega arith)
         (sounds-both (sound-e (h + 1) (n + exprLabels a) b (search lows) (omega arith) (f .1) (search lows) (y .1)) (item (omega arith) s-none)))
     sound-e h n (R.contents e) l m f w y = sounds-both (sound-e h n e l m f w y) (item (omega arith) s-none)
-    sound-e h n (R.index a b) l m f w y =
-        sounds-both (sound-e h n a l (omega arith) (f .0) (search lows) (y .0)) (item (omega arith)
+    sound-e h n (R.index a b) l m f w y = sounds-both (sound-e h n a l (omega arith) (f .0) (search lows) (y .0)) (item (omega arith)
         (sounds-both (sound-e (h + 1) (n + exprLabels a) b (search lows) (omega arith) (f .1) (search lows) (y .1))
         (item (omega arith) (item (omega arith) s-none))))
     sound-e h n (R.unary o e) l m f w y = sounds-both (sound-e h n e l m f w y) (sound-monadic o)
-    sound-e h n (R.binary o a b) l m f w y =
-        sounds-both (sound-e h n a l (omega arith) (f .0) (search lows) (y .0)) (item (omega arith)
+    sound-e h n (R.binary o a b) l m f w y = sounds-both (sound-e h n a l (omega arith) (f .0) (search lows) (y .0)) (item (omega arith)
         (sounds-both (sound-e (h + 1) (n + exprLabels a) b (search lows) (omega arith) (f .1) (search lows) (y .1))
         (item (omega arith) (item (omega arith) (item (omega arith) (item (omega (arith, act-small o)) s-none))))))
-    sound-e h n (R.call e es) l m f w y =
-        sounds-both (sound-a (h + 2) n es (search lows) (omega arith) (f .0) (search lows) (y .0))
+    sound-e h n (R.call e es) l m f w y = sounds-both (sound-a (h + 2) n es (search lows) (omega arith) (f .0) (search lows) (y .0))
         (sounds-both (sound-e (h + 2 + count es) (n + exprsLabels es) e (high (h + 2) es (search lows) (search lows)) (omega arith) (f .1)
         (search lows) (y .1)) (item (omega arith) s-none))
     sound-e h n (R.valof c) l m f w y =
@@ -221,16 +217,14 @@ module _ (T functions strings : ℕ) (few : suc functions + strings ≤ T) where
     sound-a : (h n : ℕ) (es : Exprs) → h ≤ 8192 → Span T n (exprsLabels es) → FormedA functions strings h es → Low (ofExprs h es) → LeavesA es
         → Sounds T (exprsCode (suc functions) h n es)
     sound-a h n R.none l m f w y = s-none
-    sound-a h n (R.and e es) l m f w y =
-        sounds-both (sound-e h n e l (omega arith) (f .0) (search lows) (y .0))
+    sound-a h n (R.and e es) l m f w y = sounds-both (sound-e h n e l (omega arith) (f .0) (search lows) (y .0))
         (item (omega arith) (sound-a (h + 1) (n + exprLabels e) es (search lows) (omega arith) (f .1) (search lows) (y .1)))
 
     sound-t : (h n : ℕ) (t : Target) → h ≤ 8192 → Span T n (targetLabels t) → FormedT functions strings h t → Low (ofTarget h t) → LeavesT t
         → Sounds T (targetCode (suc functions) h n t)
     sound-t h n (R.toLocal k) l m f w y = let z : k < h + 1 = f in item (omega arith) s-none
     sound-t h n (R.toGlobal k) l m f w y = let z : k < 400 = f in item (omega arith) s-none
-    sound-t h n (R.toContents e) l m f w y =
-        item (omega arith) (sounds-both (sound-e (h + 1) n e (w .0) m f (w .1) y)
+    sound-t h n (R.toContents e) l m f w y = item (omega arith) (sounds-both (sound-e (h + 1) n e (w .0) m f (w .1) y)
         (item (omega arith) (item (omega arith) (item (omega arith) s-none))))
     sound-t h n (R.toIndex a b) l m f w y =
         item (omega arith) (sounds-both (sound-e (h + 1) n a (search lows) (omega arith) (f .0) (search lows) (y .0)) (item (omega arith)
@@ -240,8 +234,7 @@ module _ (T functions strings : ℕ) (few : suc functions + strings ≤ T) where
     sound-p : (h n : ℕ) (ps : Pairs) → h ≤ 8192 → Span T n (pairsLabels ps) → FormedP functions strings h ps → Low (ofPairs h ps) → LeavesP ps
         → Sounds T (pairsCode (suc functions) h n ps)
     sound-p h n R.noPairs l m f w y = s-none
-    sound-p h n (R.pair t e ps) l m f w y =
-        sounds-both (sound-e h n e l (omega arith) (f .0) (search lows) (y .0))
+    sound-p h n (R.pair t e ps) l m f w y = sounds-both (sound-e h n e l (omega arith) (f .0) (search lows) (y .0))
         (sounds-both (sound-t h (n + exprLabels e) t l (omega arith) (f .1) (search lows) (y .1))
         (sound-p h (n + exprLabels e + targetLabels t) ps l (omega arith) (f .2) (search lows) (y .2)))
 
@@ -250,38 +243,31 @@ module _ (T functions strings : ℕ) (few : suc functions + strings ≤ T) where
     sound-c h n x R.empty l m q f w y = s-none
     sound-c h n x (R.assign ps) l m q f w y = sound-p h n ps l m f w y
     sound-c h n x (R.perform e) l m q f w y = sound-e h n e l m f w y
-    sound-c h n x (R.test e c d) l m q f w y =
-        sounds-both (sound-e h (n + 2) e l (omega arith) (f .0) (search lows) (y .0)) (item (omega arith)
+    sound-c h n x (R.test e c d) l m q f w y = sounds-both (sound-e h (n + 2) e l (omega arith) (f .0) (search lows) (y .0)) (item (omega arith)
         (sounds-both (sound-c h (n + 2 + exprLabels e) x c l (omega arith) q (f .1) (search lows) (y .1)) (item (omega arith) (item (omega arith)
         (sounds-both (sound-c h (n + 2 + exprLabels e + cmdLabels c) x d l (omega arith) q (f .2) (search lows) (y .2))
         (item (omega arith) s-none))))))
-    sound-c h n x (R.when sense e c) l m q f w y =
-        sounds-both (sound-e h (n + 1) e l (omega arith) (f .0) (search lows) (y .0))
+    sound-c h n x (R.when sense e c) l m q f w y = sounds-both (sound-e h (n + 1) e l (omega arith) (f .0) (search lows) (y .0))
         (item (omega (arith, sense-small sense 5 4 (omega arith) (omega arith)))
         (sounds-both (sound-c h (n + 1 + exprLabels e) x c l (omega arith) q (f .1) (search lows) (y .1)) (item (omega arith) s-none)))
-    sound-c h n x (R.while sense e c) l m q f w y =
-        item (omega arith) (sounds-both (sound-e h (n + 2) e l (omega arith) (f .0) (search lows) (y .0))
+    sound-c h n x (R.while sense e c) l m q f w y = item (omega arith) (sounds-both (sound-e h (n + 2) e l (omega arith) (f .0) (search lows) (y .0))
         (item (omega (arith, sense-small sense 5 4 (omega arith) (omega arith)))
         (sounds-both (sound-c h (n + 2 + exprLabels e) _ c l (omega arith) (near-loop (omega arith) q) (f .1) (search lows) (y .1))
         (item (omega arith) (item (omega arith) s-none)))))
-    sound-c h n x (R.repeat c) l m q f w y =
-        item (omega arith) (sounds-both (sound-c h (n + 3) _ c l (omega arith) (near-loop (omega arith) q) f w y)
+    sound-c h n x (R.repeat c) l m q f w y = item (omega arith) (sounds-both (sound-c h (n + 3) _ c l (omega arith) (near-loop (omega arith) q) f w y)
         (item (omega arith) (item (omega arith) (item (omega arith) s-none))))
     sound-c h n x (R.repeatWhile sense c e) l m q f w y =
         item (omega arith) (sounds-both (sound-c h (n + 3) _ c l (omega arith) (near-loop (omega arith) q) (f .0) (search lows) (y .0))
         (item (omega arith) (sounds-both (sound-e h (n + 3 + cmdLabels c) e l (omega arith) (f .1) (search lows) (y .1))
         (item (omega (arith, sense-small sense 4 5 (omega arith) (omega arith))) (item (omega arith) s-none)))))
-    sound-c h n x (R.for first limit by c) l m q f w y =
-        let z : by < 65536 = f .3 in
+    sound-c h n x (R.for first limit by c) l m q f w y = let z : by < 65536 = f .3 in
         sounds-both (sound-e h (n + 3) first l (omega arith) (f .0) (search lows) (y .0)) (item (omega arith)
         (sounds-both (sound-e (h + 1) (n + 3 + exprLabels first) limit (search lows) (omega arith) (f .1) (search lows) (y .1))
-        (item (omega arith) (item (omega arith) (item (omega arith) (item (omega arith)
-        (item (omega (arith, limit-small by)) (item (omega arith)
+        (item (omega arith) (item (omega arith) (item (omega arith) (item (omega arith) (item (omega (arith, limit-small by)) (item (omega arith)
         (sounds-both (sound-c (h + 2) (n + 3 + exprLabels first + exprLabels limit) _ c (search lows) (omega arith) (near-loop (omega arith) q) (f .2)
         (search lows) (y .2))
         (item (omega arith) (item (omega arith) (item (omega arith) (item (omega arith) (item (omega arith) (item (omega arith) s-none)))))))))))))))
-    sound-c h n x (R.switch e cs) l m q f w y =
-        sounds-both (sound-e h n e l (omega arith) (f .0) (search lows) (y .0))
+    sound-c h n x (R.switch e cs) l m q f w y = sounds-both (sound-e h n e l (omega arith) (f .0) (search lows) (y .0))
         (item (omega arith) (item (omega (arith, f .2)) (item (default-near _ _ cs (omega arith) (omega arith))
         (sounds-both (sound-table _ h cs (omega arith) (f .1))
         (sounds-both (sound-s h _ _ _ cs l (omega arith) (omega arith) (near-switch (omega arith) q) (f .1) (search lows) (y .1))
@@ -292,8 +278,7 @@ module _ (T functions strings : ℕ) (few : suc functions + strings ≤ T) where
     sound-c h n x R.endcase l m q f w y = item (omega (arith, q .endcase y)) s-none
     sound-c h n x R.return l m q f w y = item (omega arith) s-none
     sound-c h n x R.finish l m q f w y = item (omega arith) s-none
-    sound-c h n x (R.block ls cs) l m q f w y =
-        sounds-both (sound-l h n ls l (omega arith) (f .0) (search lows) (y .0))
+    sound-c h n x (R.block ls cs) l m q f w y = sounds-both (sound-l h n ls l (omega arith) (f .0) (search lows) (y .0))
         (sound-b (heightWith h ls) (n + localsLabels ls) x cs (after-low h ls l (search lows)) (omega arith) q (f .1) (search lows) (y .1))
 
     after-low : (h : ℕ) (ls : Locals) → h ≤ 8192 → Low (ofLocals h ls) → heightWith h ls ≤ 8192
@@ -304,21 +289,18 @@ module _ (T functions strings : ℕ) (few : suc functions + strings ≤ T) where
     sound-b : {a b v : Bool} (h n : ℕ) (x : Exits) (cs : Cmds) → h ≤ 8192 → Span T n (cmdsLabels cs) → Near T a b v x → FormedB functions strings h cs
         → Low (ofCmds h cs) → LeavesB a b v cs → Sounds T (cmdsCode (suc functions) h n x cs)
     sound-b h n x R.noCmds l m q f w y = s-none
-    sound-b h n x (R.andCmd c cs) l m q f w y =
-        sounds-both (sound-c h n x c l (omega arith) q (f .0) (search lows) (y .0))
+    sound-b h n x (R.andCmd c cs) l m q f w y = sounds-both (sound-c h n x c l (omega arith) q (f .0) (search lows) (y .0))
         (sound-b h (n + cmdLabels c) x cs l (omega arith) q (f .1) (search lows) (y .1))
 
     sound-s : {a b v : Bool} (h t n : ℕ) (x : Exits) (cs : Cases) → h ≤ 8192 → Span T t (commandsIn cs) → Span T n (casesLabels cs) → Near T a b v x
         → FormedS functions strings h cs → Low (ofCases h cs) → LeavesS a b v cs → Sounds T (casesCode (suc functions) h t n x cs)
     sound-s h t n x R.noCases l k m q f w y = s-none
-    sound-s h t n x (R.cases ls c cs) l k m q f w y =
-        item (omega arith) (sounds-both (sound-c h n x c l (omega arith) q (f .0) (search lows) (y .0))
+    sound-s h t n x (R.cases ls c cs) l k m q f w y = item (omega arith) (sounds-both (sound-c h n x c l (omega arith) q (f .0) (search lows) (y .0))
         (sound-s h (suc t) (n + cmdLabels c) x cs l (omega arith) (omega arith) q (f .1) (search lows) (y .1)))
 
     sound-l : (h n : ℕ) (ls : Locals) → h ≤ 8192 → Span T n (localsLabels ls) → FormedL functions strings h ls → Low (ofLocals h ls) → LeavesL ls
         → Sounds T (localsCode (suc functions) h n ls)
     sound-l h n R.noLocals l m f w y = s-none
     sound-l h n (R.vector k ls) l m f w y = item (omega arith) (item (omega arith) (sound-l (h + 2 + k) n ls (w .0) m (f .0) (w .1) y))
-    sound-l h n (R.value e ls) l m f w y =
-        sounds-both (sound-e h n e l (omega arith) (f .0) (search lows) (y .0))
+    sound-l h n (R.value e ls) l m f w y = sounds-both (sound-e h n e l (omega arith) (f .0) (search lows) (y .0))
         (item (omega arith) (sound-l (h + 1) (n + exprLabels e) ls (search lows) (omega arith) (f .1) (search lows) (y .1)))

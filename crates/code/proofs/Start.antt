@@ -41,8 +41,7 @@ one-string : {mem : List ℕ} {a c b x : ℕ} (ws : List ℕ) (d : Cell) → ((j
     → Stringed mem a b x (cond (leb a x) (cond (ltb x (a + length ws)) (holds (getD ws (x - a) 0)) d) d)
 one-string {mem} {a} {c} {b} {x} ws d f e l s =
     by-order x a (λ u. rw (lt-leb a x u) (record { before = λ h. s .before (omega arith); past-end = s .past-end; value = s .value })) (λ u.
-    by-order x (a + length ws)
-    (λ v. let z : a + (x - a) ≡ x = omega arith in
+    by-order x (a + length ws) (λ v. let z : a + (x - a) ≡ x = omega arith in
     rw (le-leb a x u, lt-ltb x (a + length ws) v) (record {
       before = λ h. absurd (omega arith);
       past-end = λ h. absurd (omega arith);
@@ -99,14 +98,11 @@ module _
       out a k g = rw (le-leb 16 a (omega arith), le-ltb a 416 k) g
 
       val : (a w : ℕ) → s₀ .cells a ≡ holds w → getD mem a 0 ≡ w
-      val a w g =
-          by-order a 16 (λ u. let z : gone ≡ holds w = rw (lt-leb 16 a u) at g in contradiction cc) (λ u.
-          by-order a 416
+      val a w g = by-order a 16 (λ u. let z : gone ≡ holds w = rw (lt-leb 16 a u) at g in contradiction cc) (λ u. by-order a 416
           (λ t. let c : holds (getD (globalsWith fs (Γ .place .entries) noGlobals) (a - 16) 0) ≡ holds w = rw (le-leb 16 a u, lt-ltb a 416 t) at g in
           let z : 16 + (a - 16) ≡ a = omega arith in
           let k : getD (globalsWith fs (Γ .place .entries) noGlobals) (a - 16) 0 ≡ w = cc in
-          (rw z at (G.global-word input b (a - 16) (omega arith))) ∙ k)
-          (λ t. cells-of a .value w (rw (le-leb 16 a u, le-ltb a 416 t) at g)))
+          (rw z at (G.global-word input b (a - 16) (omega arith))) ∙ k) (λ t. cells-of a .value w (rw (le-leb 16 a u, le-ltb a 416 t) at g)))
 
   -- a frame past the limit
   no-room : {A : Type 0} {Q : A → State → Type 0} {L E : State → Type 0} (limit base k : ℕ) (s : State) (more : State → Result A) → limit < base
@@ -117,14 +113,12 @@ module _
   not-called : {Q : Value → State → Type 0} {L E : State → Type 0} (limit base v : ℕ) (q : Sem) (s : State) → limit < base
       → Post Q L E (called fs (Γ .place) limit input q v base [] s)
   unfolding called
-  not-called {Q} {L} {E} limit base v q s l =
-      post-cond (eqb v 3) (λ e. no-room limit base 2 s (received input) l)
+  not-called {Q} {L} {E} limit base v q s l = post-cond (eqb v 3) (λ e. no-room limit base 2 s (received input) l)
       (λ e. post-cond (eqb v 5) (λ e. no-room limit base 3 s (sent (nth [] 0)) l) (λ e. go (positionOf v (Γ .place .entries) 0)))
     where
       go : (x : Option ℕ) → Post Q L E (enterAt fs limit q x base [] s)
       go none = p-undefined
-      go (some k) =
-          no-room limit base (2 + getD fs k noFun .parameters) s
+      go (some k) = no-room limit base (2 + getD fs k noFun .parameters) s
           (λ t. runBody q (getD fs k noFun .body) base (2 + getD fs k noFun .parameters) (parameters base (getD fs k noFun .parameters) [] t)) l
 
   module _ (formed : (k : ℕ) → k < length fs → FormedF (length fs) (length ss) (2 + getD fs k noFun .parameters) (getD fs k noFun .body)) where
@@ -134,8 +128,7 @@ module _
     -- the call of START, from word 0 on
     runs : (fuel : ℕ) → Runs Γ (Valued Γ 2) 5 first 2 2 s₀ v₀ (runWith fuel fs ss (Γ .place) (memory - 8) input)
     unfolding runWith
-    runs fuel =
-        by-order (memory - 8) (first + 2) (λ l. not-called (memory - 8) (first + 2) _ _ s₀ l) (λ l.
+    runs fuel = by-order (memory - 8) (first + 2) (λ l. not-called (memory - 8) (first + 2) _ _ s₀ l) (λ l.
         step-LIG Γ (fits .sized) (le-refl 2) (starts (omega arith)) refl (G.start-0 input b) (omega (arith, b .least)) λ w r c a.
         sim-called Γ fits (sem fs (Γ .place) (memory - 8) input fuel) (sims Γ fits fuel)
         (getD (globalsWith fs (Γ .place .entries) noGlobals) 1 0) [] r c
@@ -144,11 +137,9 @@ module _
     -- a source run that ends below the last eight words is followed to a finish
     pub finishes : (fuel : ℕ) (s : State) → Over (runWith fuel fs ss (Γ .place) memory input) s → s .used + 8 ≤ memory → Ends Γ 5 s₀ v₀ s
     unfolding runWith
-    finishes fuel s o h =
-        go o (both-called (memory - 8) fs (Γ .place) memory (omega arith) input _ _
+    finishes fuel s o h = go o (both-called (memory - 8) fs (Γ .place) memory (omega arith) input _ _
         (both-sem (memory - 8) fs (Γ .place) memory (omega arith) input fuel) (getD (globalsWith fs (Γ .place .entries) noGlobals) 1 0)
-        (first + 2) [] s₀)
-        (runs fuel)
+        (first + 2) [] s₀) (runs fuel)
       where
         over : {v : Value} → Reached Γ (Valued Γ 2) 5 first 2 2 s₀ v₀ v s → Ends Γ 5 s₀ v₀ s
         over e = at-finish Γ {past = 3} (e .sim .goes) (e .sim .rel) (rw (e .is .at) (G.start-2 input b)) (e .sim .time)

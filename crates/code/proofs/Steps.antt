@@ -48,8 +48,7 @@ module _ (Γ : Env) (sized : Sized Γ) {A : Type 0} {Q : A → Mach → Type 0} 
   step-LG {k} i l f = only (do-L Γ v (r .agree) pc i (over-G Γ r pc k l)) refl refl refl (λ q. f _ q refl refl)
 
   -- LIP n; LIG n
-  pub step-LIP : {k b : ℕ} → At Γ a 0 true P k b → p + k < Γ .limit + 8
-      → ((w : Mach) → Rel Γ p h s w → w .regs .c ≡ b → w .regs .a ≡ getD (v .mem)
+  pub step-LIP : {k b : ℕ} → At Γ a 0 true P k b → p + k < Γ .limit + 8 → ((w : Mach) → Rel Γ p h s w → w .regs .c ≡ b → w .regs .a ≡ getD (v .mem)
       (p + k) 0 → w .regs .b ≡ v .regs .a → w .mem ≡ v .mem → Runs Γ Q t p h₀ h₃ s w x)
       → Runs Γ Q (1 + t) p h₀ h₃ s v x
   step-LIP {k} i l f =
@@ -65,10 +64,8 @@ module _ (Γ : Env) (sized : Sized Γ) {A : Type 0} {Q : A → Mach → Type 0} 
   pub step-SP : {k b : ℕ} → At Γ a 1 false P k b → h ≤ k → p + k < Γ .limit + 8
       → ((w : Mach) → Rel Γ p h s w → w .regs .c ≡ b → w .regs .a ≡ v .regs .a → getD (w .mem) (p + k) 0 ≡ v .regs .a
       → ((y : ℕ) → (y ≡ p + k → ⊥) → getD (w .mem) y 0 ≡ getD (v .mem) y 0) → Runs Γ Q t p h₀ h₃ s w x) → Runs Γ Q (1 + t) p h₀ h₃ s v x
-  step-SP {k} i j l f =
-      let z = temp Γ r (do-S Γ v (r .agree) pc i (over-P Γ r pc k (omega (arith, sized))) (omega (arith, sized))) (omega arith) in
-      after Γ le z
-      (f _ (z .rel) refl refl (getD-set-same (v .mem) (p + k) (v .regs .a) 0 (omega (arith, sized, r .agree .size)))
+  step-SP {k} i j l f = let z = temp Γ r (do-S Γ v (r .agree) pc i (over-P Γ r pc k (omega (arith, sized))) (omega (arith, sized))) (omega arith) in
+      after Γ le z (f _ (z .rel) refl refl (getD-set-same (v .mem) (p + k) (v .regs .a) 0 (omega (arith, sized, r .agree .size)))
       (λ y ne. getD-set-other (v .mem) (p + k) y (v .regs .a) 0 ne))
 
   -- A n; AIP n
@@ -77,8 +74,7 @@ module _ (Γ : Env) (sized : Sized Γ) {A : Type 0} {Q : A → Mach → Type 0} 
       → Runs Γ Q (1 + t) p h₀ h₃ s v x
   step-A i f = only (do-A Γ v (r .agree) pc i (sum-none Γ v (r .agree) pc (i .small))) refl refl refl (λ q. f _ q refl refl refl)
 
-  pub step-AIP : {k b : ℕ} → At Γ a 2 true P k b → p + k < Γ .limit + 8
-      → ((w : Mach) → Rel Γ p h s w → w .regs .c ≡ b → w .regs .a ≡ add (v .regs .a)
+  pub step-AIP : {k b : ℕ} → At Γ a 2 true P k b → p + k < Γ .limit + 8 → ((w : Mach) → Rel Γ p h s w → w .regs .c ≡ b → w .regs .a ≡ add (v .regs .a)
       (getD (v .mem) (p + k) 0) → w .mem ≡ v .mem → Runs Γ Q t p h₀ h₃ s w x) → Runs Γ Q (1 + t) p h₀ h₃ s v x
   step-AIP {k} i l f =
       only (do-AI Γ v (r .agree) pc i (over-P Γ r pc k (omega (arith, sized))) (omega (arith, sized))) refl refl refl (λ q. f _ q refl refl refl)
@@ -115,8 +111,7 @@ module _ (Γ : Env) (sized : Sized Γ) {A : Type 0} {Q : A → Mach → Type 0} 
   -- the value of a cell; X2; X3; a dyadic act
   pub step-X1 : {y w b : ℕ} → At Γ a 7 false I.none 1 b → v .regs .a ≡ y → s .cells y ≡ holds w
       → ((u : Mach) → Rel Γ p h s u → u .regs .c ≡ b → u .regs .a ≡ w → Runs Γ Q t p h₀ h₃ s u x) → Runs Γ Q (1 + t) p h₀ h₃ s v x
-  step-X1 {y} {w} i e g f =
-      let l : y < p + h = live-below Γ r y (λ z. gone-holds z g) in
+  step-X1 {y} {w} i e g f = let l : y < p + h = live-below Γ r y (λ z. gone-holds z g) in
       only (do-X1 Γ v (r .agree) pc i (omega (arith, r .room, sized))) refl refl refl (λ q. f _ q refl (rw e (r .vals y w g)))
 
   pub step-X2 : {b : ℕ} → At Γ a 7 false I.none 2 b
@@ -137,8 +132,7 @@ module _ (Γ : Env) (sized : Sized Γ) {A : Type 0} {Q : A → Mach → Type 0} 
       → ((u : Mach) → Rel Γ p h (put (p + k) (holds w) s) u → u .regs .c ≡ b
       → ((y : ℕ) → (y ≡ p + k → ⊥) → getD (u .mem) y 0 ≡ getD (v .mem) y 0) → Runs Γ Q t p h₀ h₃ (put (p + k) (holds w) s) u x)
       → Runs Γ Q (1 + t) p h₀ h₃ s v x
-  cell-P {k} i e g f =
-      let l : p + k < p + h = live-below Γ r (p + k) (gone-live g) in
+  cell-P {k} i e g f = let l : p + k < p + h = live-below Γ r (p + k) (gone-live g) in
       let m : p + k < length (Γ .image) = omega (arith, r .room, sized) in
       let z = cell Γ r m (gone-live g) e (do-S Γ v (r .agree) pc i (over-P Γ r pc k (omega (arith, sized))) m) in
       after Γ le z (f _ (z .rel) refl (λ y ne. getD-set-other (v .mem) (p + k) y (v .regs .a) 0 ne))
@@ -146,16 +140,14 @@ module _ (Γ : Env) (sized : Sized Γ) {A : Type 0} {Q : A → Mach → Type 0} 
   pub cell-G : {k b w : ℕ} → At Γ a 1 false G k b → v .regs .a ≡ w → Live (s .cells (16 + k))
       → ((u : Mach) → Rel Γ p h (put (16 + k) (holds w) s) u → u .regs .c ≡ b → Runs Γ Q t p h₀ h₃ (put (16 + k) (holds w) s) u x)
       → Runs Γ Q (1 + t) p h₀ h₃ s v x
-  cell-G {k} i e g f =
-      let l : 16 + k < p + h = live-below Γ r (16 + k) (gone-live g) in
+  cell-G {k} i e g f = let l : 16 + k < p + h = live-below Γ r (16 + k) (gone-live g) in
       let m : 16 + k < length (Γ .image) = omega (arith, r .room, sized) in
       let z = cell Γ r m (gone-live g) e (do-S Γ v (r .agree) pc i (over-G Γ r pc k (omega (arith, sized))) m) in
       after Γ le z (f _ (z .rel) refl)
 
   pub cell-IP : {k b y w : ℕ} → At Γ a 1 true P k b → v .regs .a ≡ w → p + k < Γ .limit + 8 → getD (v .mem) (p + k) 0 ≡ y → Live (s .cells y)
       → ((u : Mach) → Rel Γ p h (put y (holds w) s) u → u .regs .c ≡ b → Runs Γ Q t p h₀ h₃ (put y (holds w) s) u x) → Runs Γ Q (1 + t) p h₀ h₃ s v x
-  cell-IP {k} {y = y} i e d q g f =
-      let l : y < p + h = live-below Γ r y (gone-live g) in
+  cell-IP {k} {y = y} i e d q g f = let l : y < p + h = live-below Γ r y (gone-live g) in
       let o : y < length (Γ .image) = omega (arith, r .room, sized) in
       let z = cell Γ r o (gone-live g) e (do-SI Γ v (r .agree) pc i (over-P Γ r pc k (omega (arith, sized))) (omega (arith, sized)) q o) in
       after Γ le z (f _ (z .rel) refl)

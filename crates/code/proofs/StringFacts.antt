@@ -30,8 +30,7 @@ module _ (text : List ℕ) where
           → (Span T (suc l) (length (stringsAmong text xs)) → Sounds T (stringsCode (suc l) (stringsAmong text xs)))
           → (Span T l (length (stringsAmong text xs)) → Sounds T (stringsCode l (stringsAmong text xs)))
           → Sounds T (stringsCode l (cond b (charactersAt text (x .place) ∷ stringsAmong text xs) (stringsAmong text xs)))
-      go true e k f g =
-          s-more {x = I.label l} (record { first = k .one; last = omega (arith, k .room) })
+      go true e k f g = s-more {x = I.label l} (record { first = k .one; last = omega (arith, k .room) })
           (s-more {x = I.string (charactersAt text (x .place))}
           (record { short = closes-short (h .0 .closes (eqb-true _ _ e)); each = writable-at (x .place) })
           (f (span (omega arith) (omega (arith, k .room)))))

@@ -39,16 +39,14 @@ module _ (Γ : Env) (sized : Sized Γ) (m : List ℕ) (agree : Agree Γ m) (w d 
   -- one pair
   pair-hit : {i v c : ℕ} (n : ℕ) → Word Γ i v → Word Γ (suc i) c → v ≡ w → search m w d (suc n) i ≡ O.ok c
   unfolding search O.read
-  pair-hit {i} {v} {c} n x y e =
-      let k : add i 1 ≡ suc i = omega (arith, x .below, sized .most) in
+  pair-hit {i} {v} {c} n x y e = let k : add i 1 ≡ suc i = omega (arith, x .below, sized .most) in
       let l = lt-ltb i (length m) (omega (arith, x .below, agree .size)) in
       let l′ = lt-ltb (suc i) (length m) (omega (arith, y .below, agree .size)) in
       rw (l, x .is m agree, eq-eqb v w e, k, l′, y .is m agree) refl
 
   pair-miss : {i v c : ℕ} (n : ℕ) → Word Γ i v → Word Γ (suc i) c → (v ≡ w → ⊥) → search m w d (suc n) i ≡ search m w d n (suc (suc i))
   unfolding search O.read
-  pair-miss {i} {v} {c} n x y e =
-      let k : add i 2 ≡ suc (suc i) = omega (arith, x .below, sized .most) in
+  pair-miss {i} {v} {c} n x y e = let k : add i 2 ≡ suc (suc i) = omega (arith, x .below, sized .most) in
       rw (lt-ltb i (length m) (omega (arith, x .below, agree .size)), x .is m agree, ne-eqb v w e, k) refl
 
   search-labels : (l : ℕ) (ls : List CaseLabel) (n : ℕ) {i j : ℕ} → Code Γ i (pairsOf l ls) j
@@ -56,8 +54,7 @@ module _ (Γ : Env) (sized : Sized Γ) (m : List ℕ) (agree : Agree Γ m) (w d 
   unfolding casesOf pairsOf hasCase
   search-labels l [] n {i} {j} k = let z : 0 + n ≡ n = omega arith in rw (z, at-end Γ k) refl
   search-labels l (R.default ∷ ls) n k = search-labels l ls n k
-  search-labels l (R.case v ∷ ls) n {i} {j} k =
-      cut-word Γ k λ x k₁.
+  search-labels l (R.case v ∷ ls) n {i} {j} k = cut-word Γ k λ x k₁.
       cut-place Γ k₁ λ y k₂.
       let z : suc (casesOf ls) + n ≡ suc (casesOf ls + n) = omega arith in
       rw z (by-equal v w (λ q. rw (pair-hit (casesOf ls + n) x y q, eq-eqb w v (sym q)) refl) (λ q.
@@ -67,8 +64,7 @@ module _ (Γ : Env) (sized : Sized Γ) (m : List ℕ) (agree : Agree Γ m) (w d 
       → search m w d (caseCount cs) i ≡ O.ok (Γ .lab (labelAt (hasCase w) l other cs))
   unfolding caseCount tableOf labelAt search
   search-table l other R.noCases e k = ap (λ (x : ℕ). O.ok x) e
-  search-table l other (R.cases ls c cs) {i} {j} e k =
-      cut Γ (pairsOf l ls) _ k λ b₁ k₁ k₂. search-labels l ls (caseCount cs) k₁
+  search-table l other (R.cases ls c cs) {i} {j} e k = cut Γ (pairsOf l ls) _ k λ b₁ k₁ k₂. search-labels l ls (caseCount cs) k₁
       ∙ by-cases (hasCase w ls) (λ t. rw t refl) (λ t. rw t (search-table (suc l) other cs e k₂))
 
 module _ (Γ : Env) where
@@ -84,8 +80,7 @@ module _ (Γ : Env) where
       → FormedS (F Γ) (S Γ) h cs → Chosen h b x cs′ other → Chosen h b x (orElse (from test cs) cs′) (labelAt test l other cs)
   unfolding from labelAt casesCode FormedS
   chosen test l n other R.noCases k f o = o
-  chosen {h} {b} {x} test l n other (R.cases ls c cs) {a} {cs′} k f o =
-      cut-label Γ k λ e k₀.
+  chosen {h} {b} {x} test l n other (R.cases ls c cs) {a} {cs′} k f o = cut-label Γ k λ e k₀.
       cut Γ (cmdCode (suc (F Γ)) h n x c) _ k₀ λ b₁ k₁ k₂.
       by-cases (test ls) (λ t. rw t (record { first = l; labels = n; code = rw e k; formed = f })) (λ t.
       rw t (chosen test (suc l) (n + cmdLabels c) other cs k₂ (f .1) o))
@@ -96,9 +91,7 @@ module _ (Γ : Env) where
         → v .regs .c ≡ a → Rel Γ p h s v → Runs Γ (Where Γ b x) 0 p h h s v (cases q cs p h s)
     unfolding cases casesCode FormedS
     sim-cases R.noCases l n {h = h} k f pc r = over Γ (le-refl h) r (w-normal (pc ∙ at-end Γ k))
-    sim-cases (R.cases ls c cs) l n {h = h} {x = x} k f pc r =
-        cut-label Γ k λ e k₀.
-        cut Γ (cmdCode (suc (F Γ)) h n x c) _ k₀ λ b₁ k₁ k₂.
+    sim-cases (R.cases ls c cs) l n {h = h} {x = x} k f pc r = cut-label Γ k λ e k₀. cut Γ (cmdCode (suc (F Γ)) h n x c) _ k₀ λ b₁ k₁ k₂.
         then Γ (le-refl h) (ih .run c n k₁ (f .0) pc r) λ g s₁ v₁ x₁ y₁.
         goes-on Γ g _ (x₁ .rel) y₁ λ c₁. sim-cases cs (suc l) (n + cmdLabels c) k₂ (f .1) c₁ (x₁ .rel)
 
@@ -114,10 +107,7 @@ module _ (Γ : Env) where
 
     pub sim-switch : (e : Expr) (cs : Cases) → GoalC Γ q (R.switch e cs)
     unfolding executed cmdCode FormedC selected casesCode FormedS
-    sim-switch e cs p h n a b x s v k f pc r =
-        cut Γ (exprCode (suc (F Γ)) h n e) _ k λ b₁ k₁ k₂.
-        cut-number Γ k₂ λ b₂ i₂ k₃.
-        cut-word Γ k₃ λ w₃ k₄.
+    sim-switch e cs p h n a b x s v k f pc r = cut Γ (exprCode (suc (F Γ)) h n e) _ k λ b₁ k₁ k₂. cut-number Γ k₂ λ b₂ i₂ k₃. cut-word Γ k₃ λ w₃ k₄.
         cut-place Γ k₄ λ w₄ k₅.
         cut Γ (tableOf (n + exprLabels e + 1) cs) _ k₅ λ b₆ k₆ k₇.
         cut Γ (casesCode (suc (F Γ)) h (n + exprLabels e + 1) (n + exprLabels e + 1 + commandsIn cs)
@@ -141,8 +131,7 @@ module _ (Γ : Env) where
         ≡ O.ok (Γ .lab (labelAt (hasCase w) (n + exprLabels e + 1) (defaultOf (n + exprLabels e + 1) (n + exprLabels e) cs) cs))
         = rw ew (search-table Γ (fits .sized) m (x₁ .rel .agree) w _ (n + exprLabels e + 1) _ cs refl k₆) in
         let z : Sim Γ 1 p h h s₁ v₁ s₁ _
-        =
-        quiet Γ (x₁ .rel) (do-X23 Γ v₁ (x₁ .rel .agree) (y₁ .at) i₂ (omega (arith, w₄ .below, fits .sized .most)) (w₄ .below)
+        = quiet Γ (x₁ .rel) (do-X23 Γ v₁ (x₁ .rel .agree) (y₁ .at) i₂ (omega (arith, w₄ .below, fits .sized .most)) (w₄ .below)
         (w₃ .is m (x₁ .rel .agree)) (w₄ .is m (x₁ .rel .agree)) found)
         refl refl refl refl refl in
         after Γ (le-refl h) z (then Γ (le-refl h) (sim-cases _ (run .first) (run .labels) (run .code) (run .formed) refl (z .rel)) λ g s₃ v₃ x₃ y₃.

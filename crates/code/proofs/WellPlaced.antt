@@ -41,8 +41,7 @@ in-functions : (strings l n : ℕ) (fs : List Fun) (k : ℕ) → k < length fs �
 unfolding functionsCode
 in-functions strings l n [] k h = absurd (omega arith)
 in-functions strings l n (f ∷ fs) zero h = rw (add-zero l) here
-in-functions strings l n (f ∷ fs) (suc k) h =
-    rw (add-shift l k) (there (in-right (bodyCode strings (2 + f .parameters) n (f .body))
+in-functions strings l n (f ∷ fs) (suc k) h = rw (add-shift l k) (there (in-right (bodyCode strings (2 + f .parameters) n (f .body))
     (there (in-functions strings (suc l) (n + bodyLabels (f .body)) fs k (omega arith)))))
 
 in-strings : (l : ℕ) (ss : List (List ℕ)) (k : ℕ) → k < length ss → In (l + k) (stringsCode l ss)
@@ -60,8 +59,7 @@ module _ (memory room : ℕ) where
   laid-defined : {n : ℕ} {xs : List Item} → In n xs → (at p : ℕ) (ls : List Label) {labels : List Label} {end : ℕ}
       → Lays memory room at ls (places p xs) labels end → defined labels n ≡ true
   unfolding places noted
-  laid-defined {n} (here {xs = xs}) at p ls h =
-      let ls′ : List Label = ls ++ (record { number = n; address = at } ∷ []) in
+  laid-defined {n} (here {xs = xs}) at p ls h = let ls′ : List Label = ls ++ (record { number = n; address = at } ∷ []) in
       let x = lay-extends memory room (at + size (label n)) ls′ (places (p + length (render (label n)) + 1) xs) (lay-step memory room h .1) in
       rw (x .is, append-assoc ls (record { number = n; address = at } ∷ []) (x .more)) (defined-in ls (x .more) n at)
   laid-defined (there {x = x} i) at p ls h = laid-defined i (at + size x) (p + length (render x) + 1) (noted at ls x) (lay-step memory room h .1)
@@ -83,8 +81,7 @@ module _ (memory room : ℕ) where
       → Lays memory room at ls (places p (functionsCode strings l n fs ++ ys)) labels end → Up labels l at (length fs)
   unfolding functionsCode places size short
   functions-up strings l n [] ys at p ls h = record { low = λ k j. absurd (omega arith); strict = λ i j u w. absurd (omega arith) }
-  functions-up strings l n (f ∷ fs) ys at p ls {labels} {end} h =
-      let a : addressOf labels l ≡ at = label-found memory room h in
+  functions-up strings l n (f ∷ fs) ys at p ls {labels} {end} h = let a : addressOf labels l ≡ at = label-found memory room h in
       let body : List Item = bodyCode strings (2 + f .parameters) n (f .body) in
       let rest : List Item = functionsCode strings (suc l) (n + bodyLabels (f .body)) fs ++ ys in
       let t : Lays memory room (at + 0) (noted at ls (label l)) (places (p + length (render (label l)) + 1) (body ++ (X 4 ∷ rest))) labels end
@@ -103,10 +100,8 @@ module _ (memory room : ℕ) where
       strict′ : {b : ℕ} → addressOf labels l ≡ at → Up labels (suc l) (b + 1) (length fs) → at + 0 ≤ b → (i j : ℕ) → i < j → j < suc (length fs)
           → addressOf labels (l + i) < addressOf labels (l + j)
       strict′ a u m i zero v w = absurd (omega arith)
-      strict′ a u m zero (suc j) v w =
-          rw (add-zero l, add-shift l j) (omega (arith, u .low j (omega arith)))
-      strict′ a u m (suc i) (suc j) v w =
-          rw (add-shift l i, add-shift l j) (u .strict i j (omega arith) (omega arith))
+      strict′ a u m zero (suc j) v w = rw (add-zero l, add-shift l j) (omega (arith, u .low j (omega arith)))
+      strict′ a u m (suc i) (suc j) v w = rw (add-shift l i, add-shift l j) (u .strict i j (omega arith) (omega arith))
 
 -- ---- strings
 
@@ -120,11 +115,9 @@ module _ (Γ : Env) where
       → StringAt (Γ .image) a b (Γ .lab (l + k)) (packed (getD ss k []))
   unfolding stringsCode
   string-at l [] c k h = absurd (omega arith)
-  string-at l (cs ∷ ss) {a} {b} (next (is-label t e) (next (is-string f g) c)) zero h =
-      let u = G.strings-up Γ (suc l) ss c in
+  string-at l (cs ∷ ss) {a} {b} (next (is-label t e) (next (is-string f g) c)) zero h = let u = G.strings-up Γ (suc l) ss c in
       rw (add-zero l, t, e) (record { low = omega arith; high = omega arith; words = f })
-  string-at l (cs ∷ ss) {a} {b} (next (is-label t e) (next (is-string f g) c)) (suc k) h =
-      let r = string-at (suc l) ss c k (omega arith) in
+  string-at l (cs ∷ ss) {a} {b} (next (is-label t e) (next (is-string f g) c)) (suc k) h = let r = string-at (suc l) ss c k (omega arith) in
       rw (add-shift l k) (record { low = omega (arith, r .low); high = r .high; words = r .words })
 
   strings-apart : (l : ℕ) (ss : List (List ℕ)) {a b : ℕ} → Code Γ a (stringsCode l ss) b → (i j : ℕ) → i < j → j < length ss
@@ -132,8 +125,7 @@ module _ (Γ : Env) where
   unfolding stringsCode
   strings-apart l [] c i j u h = absurd (omega arith)
   strings-apart l (cs ∷ ss) c i zero u h = absurd (omega arith)
-  strings-apart l (cs ∷ ss) (next (is-label t e) (next (is-string f g) c)) zero (suc j) u h =
-      let r = string-at (suc l) ss c j (omega arith) in
+  strings-apart l (cs ∷ ss) (next (is-label t e) (next (is-string f g) c)) zero (suc j) u h = let r = string-at (suc l) ss c j (omega arith) in
       rw (add-zero l, add-shift l j) (omega (arith, r .low))
   strings-apart l (cs ∷ ss) (next (is-label t e) (next (is-string f g) c)) (suc i) (suc j) u h =
       rw (add-shift l i, add-shift l j) (strings-apart (suc l) ss c i j (omega arith) (omega arith))
@@ -163,12 +155,9 @@ module _
   labelled n l h = rw (b .table-is) (table-defined (b .labels) (room - length (b .labels)) n l ∙ laid-defined memory room place 416 2 [] (b .lays))
     where
       place : In n (itemsOf fs ss)
-      place =
-          by-order (length fs) n
-          (λ k. let z : suc (length fs) + (n - suc (length fs)) ≡ n = omega arith in
+      place = by-order (length fs) n (λ k. let z : suc (length fs) + (n - suc (length fs)) ≡ n = omega arith in
           in-right (functionsCode (suc (length fs)) 1 (suc (length fs) + length ss) fs)
-          (in-left _ (rw z at (in-strings (suc (length fs)) ss (n - suc (length fs)) (omega arith)))))
-          (λ k. let z : 1 + (n - 1) ≡ n = omega arith in
+          (in-left _ (rw z at (in-strings (suc (length fs)) ss (n - suc (length fs)) (omega arith))))) (λ k. let z : 1 + (n - 1) ≡ n = omega arith in
           in-left _ (rw z at (in-functions (suc (length fs)) 1 (suc (length fs) + length ss) fs (n - 1) (omega arith))))
 
   up : Up memory room (b .labels) 1 416 (length fs)
@@ -183,16 +172,14 @@ module _
 
   pub entries-differ : (i j : ℕ) → i < length fs → j < length fs
       → getD (addressesFrom table 1 (length fs)) i 0 ≡ getD (addressesFrom table 1 (length fs)) j 0 → i ≡ j
-  entries-differ i j h k e =
-      let q : addressOf (b .labels) (1 + i) ≡ addressOf (b .labels) (1 + j) = sym (entry i h) ∙ e ∙ entry j k in
+  entries-differ i j h k e = let q : addressOf (b .labels) (1 + i) ≡ addressOf (b .labels) (1 + j) = sym (entry i h) ∙ e ∙ entry j k in
       by-order i j (λ l. absurd (omega (arith, up .strict i j l k))) (λ l.
       by-order j i (λ m. absurd (omega (arith, up .strict j i m h))) (λ m. omega arith))
 
   pub entry-high : (i : ℕ) → i < length fs → 416 ≤ getD (addressesFrom table 1 (length fs)) i 0
   entry-high i h = rw (entry i h) (up .low i h)
 
-  string-here : (i : ℕ) → i < length ss
-      → StringAt mem (G.codeEnd [] b) (past (G.codeEnd [] b) (stringsCode (suc (length fs)) ss))
+  string-here : (i : ℕ) → i < length ss → StringAt mem (G.codeEnd [] b) (past (G.codeEnd [] b) (stringsCode (suc (length fs)) ss))
       (getD (addressesFrom table (suc (length fs)) (length ss)) i 0) (packed (getD ss i []))
   string-here i h = rw (string-entry i h) (string-at Γ (suc (length fs)) ss (G.standing [] b .strings) i h)
 
@@ -204,8 +191,7 @@ module _
 
   pub string-in-place : (i : ℕ) → i < length ss
       → take (length (packed (getD ss i []))) (drop (getD (addressesFrom table (suc (length fs)) (length ss)) i 0) mem) ≡ packed (getD ss i [])
-  string-in-place i h =
-      let n : ℕ = length (packed (getD ss i [])) in
+  string-in-place i h = let n : ℕ = length (packed (getD ss i [])) in
       let a : ℕ = getD (addressesFrom table (suc (length fs)) (length ss)) i 0 in
       let s = string-here i h in
       let d : length (drop a mem) ≡ length mem - a = length-drop a mem in

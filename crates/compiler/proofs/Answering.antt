@@ -74,8 +74,7 @@ few-functions (T.functions fs ∷ p) = omega (arith, length-append (encodeFuncti
 few-strings : (text : List ℕ) (ss : List Symbol) → length (stringsAmong text ss) ≤ length ss
 unfolding stringsAmong
 few-strings text [] = omega arith
-few-strings text (s ∷ ss) =
-    let h = few-strings text ss in by-cases (eqb (s .kind) STRING) (λ e. rw e (omega arith)) (λ e. rw e (omega arith))
+few-strings text (s ∷ ss) = let h = few-strings text ss in by-cases (eqb (s .kind) STRING) (λ e. rw e (omega arith)) (λ e. rw e (omega arith))
 
 -- ---- START
 
@@ -163,8 +162,7 @@ module _ {source : List ℕ} (s : List ℕ) {front : List ℕ} {a : SymbolsRead}
   again-decoded = rw (k, again, append-assoc, decoded-entries ss _)
 
   again-clean : {used : ℕ} → count * 3 ≤ used → Clean used s → Clean used (front ++ drop room s)
-  again-clean h c =
-      let long : length (entries ss) ≤ room = omega (arith, entries-size ss, few-good source ss e) in
+  again-clean h c = let long : length (entries ss) ≤ room = omega (arith, entries-size ss, few-good source ss e) in
       clean-front room (ap length again ∙ padded-long (entries ss) room long) (padded-clean (entries ss) room again (omega (arith, entries-size ss)))
       c
 
@@ -210,8 +208,7 @@ module _ {source s : List ℕ} {count end : ℕ} (y : ReadyTree source s count e
 
   pub lies : Holds s (count * 3) (encodeProgram p)
   lies = record {
-    at = λ i h.
-        ap (λ (z : List ℕ). getD z (count * 3 + i) 0) (y .stand)
+    at = λ i h. ap (λ (z : List ℕ). getD z (count * 3 + i) 0) (y .stand)
         ∙ (List·getD-append (entries (y .symbols) ++ encodeProgram p) (replicate (length s - length (entries (y .symbols) ++ encodeProgram p)) 0) 0
         (count * 3 + i) (omega (arith, length-append (entries (y .symbols)) (encodeProgram p), size))
         ∙ (ap (λ (n : ℕ). getD (entries (y .symbols) ++ encodeProgram p) (n + i) 0) (sym size) ∙ getD-append-add (entries (y .symbols))
@@ -247,8 +244,7 @@ module _ {source s : List ℕ} {count end : ℕ} (y : ReadyTree source s count e
 
   -- as language's `counts`, in a text of any number of strings up to STRINGS
   counted : Counts 1 (sourceNow source) STRINGS (λ at. cost 1 (take at (symbolsNow source)))
-  counted =
-      let k = counts 1 (omega arith) source (omega arith) (omega (arith, cost-length (scan source .symbols), few-scanned)) in
+  counted = let k = counts 1 (omega arith) source (omega arith) (omega (arith, cost-length (scan source .symbols), few-scanned)) in
       record {
         up = k .up;
         one = k .one;
@@ -345,14 +341,12 @@ module _ {source s : List ℕ} {count end : ℕ} (y : ReadyTree source s count e
 
       the-text : ((36 ∷ 10 ∷ []) ++ lines code) ++ (lines behind ++ (90 ∷ 10 ∷ [])) ≡ textOf source
       unfolding textOf
-      the-text =
-          append-assoc (36 ∷ 10 ∷ []) (lines code) (lines behind ++ (90 ∷ 10 ∷ []))
+      the-text = append-assoc (36 ∷ 10 ∷ []) (lines code) (lines behind ++ (90 ∷ 10 ∷ []))
           ∙ (simp (append-assoc, lines-then code behind, rendered (code ++ behind), items-are))
 
       -- the text is the generator's
       written : faultsFrom source begin p ≡ [] → Text t (textOf source) last t₃
-      written e =
-          let x = o .by t [] (text-start t) in let y′ = w .did .clean e .text .by t (36 ∷ 10 ∷ []) x in let z = b .by (y .symbols) (funs ns)
+      written e = let x = o .by t [] (text-start t) in let y′ = w .did .clean e .text .by t (36 ∷ 10 ∷ []) x in let z = b .by (y .symbols) (funs ns)
           (y .reads) (y .counts) n (w .long) (f ∙ sym (length-funs ns)) (w .starting e) in
           rw the-text at (z .by t _ y′)
 
@@ -369,8 +363,7 @@ module _ {source s : List ℕ} {count end : ℕ} (y : ReadyTree source s count e
         where
           go : (d : Refused) → decided source (length s) (length t) ≡ d → Begins source t₃ d
           go (refused number place) e = tt
-          go accepted e =
-              let k = fitting (length (textOf source)) (length t) _
+          go accepted e = let k = fitting (length (textOf source)) (length t) _
               (sym (rules-decide (y .lent) (length t) (y .symbols) p (y .next) (y .reads) (y .parses)) ∙ e) in
               let x = written (no-faults (faultsFrom source begin p) _ (k .0)) in (
                 ap (take (length (textOf source))) (x .is) ∙ over-front (textOf source) t (k .1),

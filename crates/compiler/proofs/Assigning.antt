@@ -27,8 +27,7 @@ use Rattle.compiler.proofs.Anywhere.{any-expression}
 
 -- right, left, then the others, as left ones and then right ones
 same-pairs : (r l L R : List Fault) → Same (r ++ (l ++ (L ++ R))) ((l ++ L) ++ (r ++ R))
-same-pairs r l L R =
-    same-then (same-swap r (l ++ (L ++ R))) (same-then (same-eq (simp append-assoc))
+same-pairs r l L R = same-then (same-swap r (l ++ (L ++ R))) (same-then (same-eq (simp append-assoc))
     (same-then (same-both (same-refl {a = l}) (same-both (same-refl {a = L}) (same-swap R r))) (same-eq (sym (append-assoc l L (r ++ R))))))
 
 -- ---- where the left sides stand, between two places: the next one ends at l, the others follow it as items
@@ -140,9 +139,7 @@ module _ (text t₀ : List ℕ) {s₀ : List ℕ} {left right end : ℕ} {here :
     pub assign-length : (y : ReadyAssign s₀ left right end here st₀) (p : AssignPart y s t l at st) → let u = assign-is y p in
         (length (encodeExpressions (p .rights)) ≡ 2 + length (encode (u .right .part)) + length (encodeExpressions (u .right .more)))
         × (length (encodeSides (p .lefts)) ≡ length (encode (u .left)) + length (encodeExpressions (u .lefts)))
-    assign-length y p =
-        let u = assign-is y p in
-        (omega arith, cc (sides-long (u .left) (u .lefts)))
+    assign-length y p = let u = assign-is y p in (omega arith, cc (sides-long (u .left) (u .lefts)))
 
     pub assign-deep : (y : ReadyAssign s₀ left right end here st₀) (p : AssignPart y s t l at st) → let u = assign-is y p in
         (depth (u .left) ≤ here .left) × (expressionsDepth (u .lefts) ≤ here .left) × (depth (u .right .part) ≤ here .left)
@@ -281,13 +278,11 @@ module _ {s : List ℕ} {end : ℕ} {here : Here} {st : State} (n : Node) (nd : 
       → GaveU text s s₁ end here ways t t₁ st r
   unfolding inUnlabelled unlabelled G.cmdCode ofCmd G.cmdLabels
   assigned-gave text ways {s₁} {t} {t₁} {r} g = record {
-    by =
-        λ y. let u = assigned-is y in let x = g .by (assigned-part y) in let sc = y .scope in let h = here .height in let l = leavable here in
+    by = λ y. let u = assigned-is y in let x = g .by (assigned-part y) in let sc = y .scope in let h = here .height in let l = leavable here in
         let m = leavableBy ways here in
         subst
         (λ (v : Unlabelled). Result (inUnlabelled text sc m h v) (cmdSays here ways (unlabelled text sc h v)) (length (encodeUnlabelled (y .tree)))
-        (y .base) here s s₁ t t₁ st r) (sym (u .same))
-        (record {
+        (y .base) here s s₁ t t₁ st r) (sym (u .same)) (record {
           keeps = x .keeps;
           did = did-as _ _ (x .did) (same-eq (rw (any-sides text l m refl sc (h + 1) (u .left), any-right text l m refl sc h (u .right))))
               (λ k e. refl) (omega arith);

@@ -302,8 +302,7 @@ module _ {s : List ℕ} {end : ℕ} {here : Here} {st : State} (n : Node) (nd : 
           → GaveList text s₂ s₃ middle (n .inner) (placed (a .top) (a .height) here) ways t₁ t₂ (a .done) r → GaveU text s s₃ end here ways t t₂ st r
       unfolding inUnlabelled unlabelled G.cmdCode ofCmd G.cmdLabels
       block-gave ways {s₃} {t₂} {r} g₂ = record {
-        by = λ y.
-            let u = block-is y in let x = g .by (block-locals y) in let z = g₂ .by (block-list y) in let sc = opened (y .scope) in
+        by = λ y. let u = block-is y in let x = g .by (block-locals y) in let z = g₂ .by (block-list y) in let sc = opened (y .scope) in
             let h = here .height in let ls = u .left in
             let LS = locals text sc h ls in let sc′ = scopeAfter text sc h ls in let h′ = heightAfter text sc h ls in let l = leavableBy ways here in
             let eh : H.heightWith h LS ≡ h′ = heights-agree text sc h ls (block-parts y .0 .0) in

@@ -42,8 +42,7 @@ module _ {s : List ℕ} {end word : ℕ} {x : Here} {st : State} where
     pub gave-value : word ≡ K.EQUAL → GaveE text s s′ end x t t′ st r → GaveBody text s s′ end word x t t′ st r
     unfolding encodeBody G.bodyCode G.bodyLabels ready-value
     gave-value e g = record {
-      by = λ y.
-          let z = y .ready in let v = value-is (z .tree) (sym (y .word-is) ∙ e) in
+      by = λ y. let z = y .ready in let v = value-is (z .tree) (sym (y .word-is) ∙ e) in
           let out : x .routine ≡ false = y .routine-is ∙ ap not (eq-eqb word K.EQUAL e) in
           subst (Gives y text s′ t t′ r) (sym (v .1))
           (subst (λ (k : Bool). Result (inExpression text (z .scope) (record { loop = false; switch = false; valof = false; routine = k }) (x

@@ -142,8 +142,7 @@ module _ {A : Type 0} (enc : A → List ℕ) (cons : A → Suffixes → Suffixes
   alone : length (encodeSuffixes ss) ≡ 0 → (IsLast enc cons s m end (cons a ss) → Last s m end (cons a ss) tag)
       → Last s m end (cons a ss) (getD s (end - 1) 0)
   unfolding encodeSuffixes snoc
-  alone z is =
-      let x = enc a in let v = length x ∷ tag ∷ [] in let f = first (x ++ v) (encodeSuffixes ss) h in
+  alone z is = let x = enc a in let v = length x ∷ tag ∷ [] in let f = first (x ++ v) (encodeSuffixes ss) h in
       let two = second x v (m + length x) f refl in let k = behind-length tag x (encodeSuffixes ss) in let e0 : m ≡ m + 0 = omega arith in
       let e1 : end - 1 ≡ m + length x + 1 = omega arith in let e2 : end - 2 ≡ m + length x + 0 = omega arith in
       rw (ap (λ (k : ℕ). getD s k 0) e1 ∙ two .at 1 (omega arith)) (is (record {
@@ -160,8 +159,7 @@ module _ {A : Type 0} (enc : A → List ℕ) (cons : A → Suffixes → Suffixes
       (q : (c : Suffixes → Suffixes) (x : Suffixes) → cons a (snoc c x) ≡ snoc c (cons a x)) where
     before : {B : Type 0} {encB : B → List ℕ} {is : B → Suffixes → Suffixes} → IsLast encB is s (m + length (behind tag (enc a))) end ss
         → IsLast encB is s m end (cons a ss)
-    before {is = is} u =
-        let w = behind tag (enc a) in let x = encodeSuffixes (u .init) in let k = ap length (p (u .init)) ∙ length-append w x in
+    before {is = is} u = let w = behind tag (enc a) in let x = encodeSuffixes (u .init) in let k = ap length (p (u .init)) ∙ length-append w x in
         let z : m + length w + length x ≡ m + length (encodeSuffixes (cons a (u .init))) = omega arith in
         record {
           init = cons a (u .init);
@@ -180,8 +178,7 @@ module _ {A : Type 0} (enc : A → List ℕ) (cons : A → Suffixes → Suffixes
     step : (IsLast enc cons s m end (cons a ss) → Last s m end (cons a ss) tag)
         → ((k : ℕ) → Holds s k (encodeSuffixes ss) → end ≡ k + length (encodeSuffixes ss) → k < end → Last s k end ss (getD s (end - 1) 0))
         → Last s m end (cons a ss) (getD s (end - 1) 0)
-    step is rest =
-        let w = behind tag (enc a) in let k = length-append w (encodeSuffixes ss) in let n = m + length w in
+    step is rest = let w = behind tag (enc a) in let k = length-append w (encodeSuffixes ss) in let n = m + length w in
         by-cases (ltb n end) (λ b. before-last (rest n (second w (encodeSuffixes ss) n h refl) (omega arith) (ltb-true n end b)))
         (λ b. alone (omega (arith, ltb-false n end b)) is)
 
@@ -274,8 +271,7 @@ module _ (text : List ℕ) (sc : Scope) (h : ℕ) (p : Expression) {ss : Suffixe
 
 module _ {s : List ℕ} {middle end : ℕ} {here : Here} {st : State} where
   pub applied-ends : (y : ReadySuffixes s middle end here st) → end ≡ middle + length (encodeSuffixes (y .ready .tree .suffixes))
-  applied-ends y =
-      let a = y .ready .tree in
+  applied-ends y = let a = y .ready .tree in
       omega (arith, length-append (encode (a .primary)) (encodeSuffixes (a .suffixes)))
 
   pub applied-lies : (y : ReadySuffixes s middle end here st) → Holds s middle (encodeSuffixes (y .ready .tree .suffixes))
@@ -354,9 +350,7 @@ module _ {s : List ℕ} {middle end tag inner start : ℕ} (r : LastRead s middl
     index-well y = let w = last-well y (is-index q (the-last y)) in (omega arith, w .3 .0)
 
     abbrev pub index-left : ReadySuffixes s middle end here st → ReadySuffixes s middle start here st
-    index-left y =
-        let u = is-index q (the-last y) in
-        init-part here y keeps-all u refl refl refl (omega arith) (omega arith) (y .ready .some)
+    index-left y = let u = is-index q (the-last y) in init-part here y keeps-all u refl refl refl (omega arith) (omega arith) (y .ready .some)
 
     module _ (text : List ℕ) {s₁ t t₁ : List ℕ} {a : State} (g : GaveSuffixes text s s₁ middle start here t t₁ st a) where
       abbrev pub index-right : ReadySuffixes s middle end here st → ReadyE s₁ inner (raised 1 here) a
@@ -368,8 +362,7 @@ module _ {s : List ℕ} {middle end tag inner start : ℕ} (r : LastRead s middl
       pub index-gave : {s₂ t₂ : List ℕ} {d : State} → GaveIndexed text s₁ s₂ inner here t₁ t₂ a d → GaveSuffixes text s s₂ middle end here t t₂ st d
       unfolding exprCode ofExpr exprLabels
       index-gave g₂ = record {
-        by = λ y.
-            let z = y .ready in let sc = z .scope in let h = here .height in let p = z .tree .primary in let u = is-index q (the-last y) in
+        by = λ y. let z = y .ready in let sc = z .scope in let h = here .height in let p = z .tree .primary in let u = is-index q (the-last y) in
             let x = g .by (index-left y) in let w = g₂ .by (index-right y) in
             let ef = index-faults text sc h p (u .init) (u .part) (u .same) (leavable here) in
             let er = index-means text sc h p (u .init) (u .part) (u .same) in
@@ -395,8 +388,7 @@ module _ {s : List ℕ} {middle end tag inner start : ℕ} (r : LastRead s middl
     }
 
     pub call-count : {n : ℕ} → Counts s start inner n → (y : ReadySuffixes s middle end here st) → n ≡ T.count (is-call q (the-last y) .part)
-    call-count k y =
-        let u = is-call q (the-last y) in
+    call-count k y = let u = is-call q (the-last y) in
         k .by _ (expression-items (u .part) (rw (← (start-of r u)) at (u .lies-part)) (omega (arith, start-of r u)))
 
     module _ (text : List ℕ) {n : ℕ} {s₁ t t₁ : List ℕ} {b : State} (k : Counts s start inner n)
@@ -447,8 +439,7 @@ module _ {s : List ℕ} {middle end : ℕ} {d d′ : Here} {st : State} where
 
 -- no other kind, as a match has it
 abbrev pub NotOther : ℕ → Type 0
-NotOther k =
-    ((((((Unit × (k ≡ 60 → ⊥)) × (k ≡ 61 → ⊥)) × (k ≡ 59 → ⊥)) × (k ≡ 51 → ⊥)) × (k ≡ 131 → ⊥)) × (k ≡ 7 → ⊥)) × (k ≡ 128 → ⊥)
+NotOther k = ((((((Unit × (k ≡ 60 → ⊥)) × (k ≡ 61 → ⊥)) × (k ≡ 59 → ⊥)) × (k ≡ 51 → ⊥)) × (k ≡ 131 → ⊥)) × (k ≡ 7 → ⊥)) × (k ≡ 128 → ⊥)
 
 pub is-suffixed : {s : List ℕ} {lo end k : ℕ} {e : Expression} → NotOther k → Case s lo end k e → IsTwo encode encodeSuffixes T.suffixed s lo end e
 is-suffixed n (aNumber h) = absurd (n .0 .0 .0 .0 .0 .0 .1 refl)
@@ -477,8 +468,7 @@ module _ {s : List ℕ} {end : ℕ} {here : Here} {st : State} (n : Node) (nd : 
 
   abbrev pub suffixed-part : ReadyE s end here st → ReadySuffixes s middle (n .inner) (inside here) st
   suffixed-part y = let u = suffixed-is y in let k = length-append (encode (u .left)) (encodeSuffixes (u .list)) in record {
-    ready =
-        sub {part = record { primary = u .left; suffixes = u .list }} y keeps-all (both (encode (u .left)) (encodeSuffixes (u .list)) (u .lies)
+    ready = sub {part = record { primary = u .left; suffixes = u .list }} y keeps-all (both (encode (u .left)) (encodeSuffixes (u .list)) (u .lies)
         (u .lies-list) refl) refl (omega (arith, suffixed-well y .0, suffixed-well y .1)) (suffixed-well y .2, suffixed-well y .3);
     parts = suffixed-middle y;
   }

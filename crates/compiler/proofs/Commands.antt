@@ -34,8 +34,7 @@ module _ {s : List ℕ} {end : ℕ} {here : Here} {st : State} (n : Node) (nd : 
       → GaveE text s s₁ end here t t₂ st c
   unfolding inExpression expression G.exprCode ofExpr G.exprLabels
   valof-gave text {s₁} {t} {t₁} {t₂} {a} {b} {c} e g f = record {
-    by = λ y.
-        let u = is-valof (find n nd q y) in let x = g .by (valof-part e y) in let sc = y .scope in let h = here .height in
+    by = λ y. let u = is-valof (find n nd q y) in let x = g .by (valof-part e y) in let sc = y .scope in let h = here .height in
         let C = command text sc h (u .part) in
         let l : leavableBy (inValof (st .label)) (inside here) ≡ Y.inValof (leavable here) = leaves-valof here (y .some) in
         rw (u .same) (record {

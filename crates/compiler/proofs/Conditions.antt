@@ -85,14 +85,12 @@ module _ {s : List ℕ} {end : ℕ} {here : Here} {st : State} (n o b : Node) (n
           → Emits (I.label (st .label + 1) ∷ []) [] t₆ t₇ l r → GaveU text s s₃ end here ways t t₇ st r
       unfolding inUnlabelled unlabelled G.cmdCode ofCmd G.cmdLabels
       test-gave {s₃} {t₆} {t₇} {l} {r} g₃ f₄ = record {
-        by = λ y.
-            let u = test-is y in let x = g .by (test-first e y) in let z = g₂ .by (test-body y) in let v = g₃ .by (test-rest y) in
+        by = λ y. let u = test-is y in let x = g .by (test-first e y) in let z = g₂ .by (test-body y) in let v = g₃ .by (test-rest y) in
             let sc = y .scope in let h = here .height in let E = expression text sc h (u .test) in let C = command text sc h (u .body) in
             let D = command text sc h (u .other) in let L = st .label in
             let m : L + 2 + (G.exprLabels E + G.cmdLabels C) ≡ L + 2 + G.exprLabels E + G.cmdLabels C = omega arith in
             subst (λ (p : Unlabelled). Result (inUnlabelled text sc (leavableBy ways here) h p) (cmdSays here ways (unlabelled text sc h p))
-            (length (encodeUnlabelled (y .tree))) (y .base) here s s₃ t t₇ st r) (sym (u .same))
-            (record {
+            (length (encodeUnlabelled (y .tree))) (y .base) here s s₃ t t₇ st r) (sym (u .same)) (record {
               keeps = keeps-then (keeps-then (x .keeps) (z .keeps)) (v .keeps);
               did = did-at (cmdSays here ways (R.test E C D)) _ (did-fresh e
                   (did-put (did-then (did-put (did-then (did-put (with-ways text sc here ways h (u .test) (x .did)) f) (z .did)) (emits-then f₂ f₃))

@@ -19,8 +19,7 @@ abbrev earlier : (p n q m : ℕ) → Bool
 earlier p n q m = cond (ltb p q) true (cond (eqb p q) (ltb n m) false)
 
 keys : (p n q m : ℕ) → n < 32 → m < 32 → ltb (p * 32 + n) (q * 32 + m) ≡ earlier p n q m
-keys p n q m a b =
-    by-cases (ltb p q) (λ e. rw e (lt-ltb (p * 32 + n) (q * 32 + m) (omega (arith, ltb-true p q e)))) (λ e. rw e (by-cases (eqb p q)
+keys p n q m a b = by-cases (ltb p q) (λ e. rw e (lt-ltb (p * 32 + n) (q * 32 + m) (omega (arith, ltb-true p q e)))) (λ e. rw e (by-cases (eqb p q)
     (λ f. rw f (same (eqb-true p q f))) (λ f. rw f (le-ltb (p * 32 + n) (q * 32 + m) (omega (arith, ltb-false p q e, eqb-false p q f))))))
   where
     same : p ≡ q → ltb (p * 32 + n) (q * 32 + m) ≡ ltb n m
@@ -30,8 +29,7 @@ keys p n q m a b =
 pub least-from : (f : Fault) (fs : List Fault) → f .number < 32 → AllFit fs → least (key f) fs ≡ key (leastFrom f fs)
 unfolding least leastFrom
 least-from f [] a h = refl
-least-from f (g ∷ gs) a (andFit p n h) =
-    rw (keys (g .place) (g .number) (f .place) (f .number) n a)
+least-from f (g ∷ gs) a (andFit p n h) = rw (keys (g .place) (g .number) (f .place) (f .number) n a)
     (by-cases (before g f) (λ e. simp e (least-from g gs n h)) (λ e. simp e (least-from f gs a h)))
 
 -- from a number above all keys

@@ -167,8 +167,7 @@ least-swap x (f ∷ a) b = let k = key f in let s = step-min k x in let t = step
     cc (s, t, m, least-swap (min x k) a b, least-then x b a, least-min (least x b) k a, least-then x b (f ∷ a))
 
 pub same-swap : (a b : List Fault) → Same (a ++ b) (b ++ a)
-same-swap a b =
-    record
+same-swap a b = record
     { least = λ x. least-swap x a b; none = λ e. rw (nil-left b a e, nil-right b a e); fits = λ f. fit-then (fit-right a b f) (fit-left a b f) }
 
 pub same-then : {a b c : List Fault} → Same a b → Same b c → Same a c

@@ -46,21 +46,17 @@ module _ (text : List ℕ) {s t t′ : List ℕ} {end : ℕ} {here : Here} {st r
   pub name-gave : {m : ℕ} → n .kind ≡ 59 → Looked text s (here .top) (n .inner) m → Means m (n .place) t t′ st r → GaveE text s s end here t t′ st r
   unfolding inExpression expression
   name-gave q lk f = record {
-    by = λ y. let u = is-name (find n nd q y) in so text here (y .scope) (u .same)
-        (record {
-          keeps = keeps-all;
-          did =
-              more _ (subst (λ (p : ℕ). Did (onFound (lookup text (y .scope) (u .name)) (fault p 8) []) (exprSays (here .strings) (here .height)
-              (ofMeaning (lookup text (y .scope) (u .name)))) 0 t t′ st r) (nd .place ∙ u .place-of) (f .by (here .strings) (here .height) (lookup
-              text (y .scope) (u .name)) (lk .by (y .scope) (y .shows) ∙ ap (λ (z : Name). found (lookup text (y .scope) z))
-              (leaf (u .name) (u .width-of) (u .place-of) (omega arith))))) (omega arith);
-        });
+    by = λ y. let u = is-name (find n nd q y) in so text here (y .scope) (u .same) (record {
+      keeps = keeps-all;
+      did = more _ (subst (λ (p : ℕ). Did (onFound (lookup text (y .scope) (u .name)) (fault p 8) []) (exprSays (here .strings) (here .height)
+          (ofMeaning (lookup text (y .scope) (u .name)))) 0 t t′ st r) (nd .place ∙ u .place-of) (f .by (here .strings) (here .height) (lookup
+          text (y .scope) (u .name)) (lk .by (y .scope) (y .shows) ∙ ap (λ (z : Name). found (lookup text (y .scope) z))
+          (leaf (u .name) (u .width-of) (u .place-of) (omega arith))))) (omega arith);
+    });
   }
     where
       leaf : (z : Name) → getD s (end - 3) 0 ≡ z .width → getD s (end - 2) 0 ≡ z .place → 4 ≤ end → nameAt s (n .inner) ≡ z
-      leaf z w p l =
-          let a : n .inner + 2 ≡ end - 2 = omega arith in let b : n .inner + 1 ≡ end - 3 = omega arith in
-          rw (a, p, b, w)
+      leaf z w p l = let a : n .inner + 2 ≡ end - 2 = omega arith in let b : n .inner + 1 ≡ end - 3 = omega arith in rw (a, p, b, w)
 
 -- ---- brackets
 
@@ -128,8 +124,7 @@ module _ {s : List ℕ} {end : ℕ} {here : Here} {st : State} (n : Node) (nd : 
         → GaveE text s s₂ end here t t₂ st b
     unfolding inExpression expression
     dyadic-gave g₂ = record {
-      by = λ y.
-          let u = is-dyadic (find n nd q y) in let x = g .by (dyadic-left y) in let z = g₂ .by (dyadic-rest y) in let sc = y .scope in
+      by = λ y. let u = is-dyadic (find n nd q y) in let x = g .by (dyadic-left y) in let z = g₂ .by (dyadic-rest y) in let sc = y .scope in
           let h = here .height in let e = expression text sc h (u .left) in
           so text here sc (u .same) (record {
             keeps = keeps-then (x .keeps) (z .keeps);

@@ -136,8 +136,7 @@ module _ {s : List ℕ} {end : ℕ} {here : Here} {st : State} (n b l : Node) {l
           subst FineName (sym (keeps-name k (omega (arith, for-start y)) ∙ for-name y)) (for-fine y .4)
 
       pub for-says : (y : ReadyU s end here st) → Says v (byJudged text (y .scope) (for-is y .by))
-      for-says y = let u = for-is y in
-          jb .by (y .scope) (u .by) (keeps-shows (for-keeps y) (omega arith) (y .shows)) (for-fine y .2)
+      for-says y = let u = for-is y in jb .by (y .scope) (u .by) (keeps-shows (for-keeps y) (omega arith) (y .shows)) (for-fine y .2)
           (keeps-lies (for-keeps y) (omega (arith, for-places y .1)) (rw (← (for-places y .1)) at (u .lies-by)))
           (omega (arith, for-places y .0, for-places y .1))
 

@@ -62,8 +62,7 @@ module _ {s : List ℕ} {end : ℕ} {here : Here} {st : State} (n : Node) (nd : 
 
   module _ {s₁ : List ℕ} (pu : Pushed s s₁ (here .top) 0 0) where
     abbrev pub function-names : ReadyF s end here st → ReadyNames s₁ (n .start + 4) (n .start + 4 + n .value) (here .top + 2) 2
-    function-names y = let u = function-parts y in let r = function-room y in let k = pushed-keeps pu (r .1) (y .long) in
-        let z = function-places y in
+    function-names y = let u = function-parts y in let r = function-room y in let k = pushed-keeps pu (r .1) (y .long) in let z = function-places y in
         ready-names (y .base) (opened (y .scope)) (y .tree .parameters) (rw (z .0) (keeps-lies k (omega arith) (u .lies-names)))
         (pushed-mark pu (r .1) (y .long) (y .shows) refl) (y .fine .parameters) (omega arith)
 

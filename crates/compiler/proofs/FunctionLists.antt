@@ -96,14 +96,13 @@ flat st = record { at = st .at; label = st .label; worst = st .worst; high = 0 }
 pub did-flat : {fs : List Fault} {code : ℕ → Code} {m : ℕ} {t t′ : List ℕ} {st a r : State} → st .high ≡ 0 → r ≡ flat a → Did fs code m t t′ st a
     → Did fs (λ n. record { items = code n .items; heights = []; labels = code n .labels }) m t t′ st r
 unfolding greatest
-did-flat low e x =
-    rw e (record {
-      worst = x .worst;
-      fits = x .fits;
-      few = x .few;
-      grows = x .grows;
-      clean = λ c. let w = x .clean c in record { text = w .text; high = sym low; label = w .label };
-    })
+did-flat low e x = rw e (record {
+  worst = x .worst;
+  fits = x .fits;
+  few = x .few;
+  grows = x .grows;
+  clean = λ c. let w = x .clean c in record { text = w .text; high = sym low; label = w .label };
+})
 
 -- ---- one function
 
@@ -181,8 +180,7 @@ module _ (text t₀ : List ℕ) {s₀ : List ℕ} {from end : ℕ} {here : Here}
     group-one = is-function (p .left .rest) (p .left .lies) (p .left .ends) lt
 
     -- its size, what it takes, and how deep it is
-    pub group-sizes : let u = group-one in
-        ((size ≡ length (encodeFunction (u .part)))
+    pub group-sizes : let u = group-one in ((size ≡ length (encodeFunction (u .part)))
         × (length (encodeFunctions (p .left .rest)) ≡ 2 + length (encodeFunction (u .part)) + length (encodeFunctions (u .more))))
         × (length (p .left .rest) ≡ suc (length (u .more))) × (functionDepth (u .part) ≤ here .left) × (functionsDepth (u .more) ≤ here .left)
     unfolding functionsDepth

@@ -192,8 +192,7 @@ module _ (text : List ℕ) {s₀ table₀ : List ℕ} {from end top before : ℕ
   names-end {s} {table} {at} {k} l q = record {
     by = λ y. let p = q y in let e = no-function (p .left .rest) (p .left .ends) l in
         let fs : groupNameFaults text before (y .scope) (y .taken) (y .functions)
-        ≡ p .bad =
-        simp (p .faults, e, append-nil) in let ss : startsIn text before (y .scope) (y .functions) ≡ p .begun =
+        ≡ p .bad = simp (p .faults, e, append-nil) in let ss : startsIn text before (y .scope) (y .functions) ≡ p .begun =
         simp (p .started, e, append-nil) in
         record {
           shows = rw (p .scopes ∙ ap (functionsAfter text k (p .scope)) e) (p .shows);

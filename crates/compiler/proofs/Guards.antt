@@ -88,8 +88,7 @@ pub record IsGuarded (s : List ℕ) (lo end w : ℕ) (u : Unlabelled) : Type 0 w
   pub ends : end ≡ lo + length (encode test) + length (encodeCommand body) + 4
 
 pub kind-of : {s x : List ℕ} {lo end : ℕ} (u : IsClosed x) → Holds s lo x → end ≡ lo + length x → getD s (end - 1) 0 ≡ u .kind
-kind-of u h e =
-    let w = u .inner in let v = u .value in let p = u .place in let k = u .kind in
+kind-of u h e = let w = u .inner in let v = u .value in let p = u .place in let k = u .kind in
     kind-is w v p k (rw (u .is) at h) (rw (e, u .is))
 
 pub guarded-of : {s : List ℕ} {lo end w : ℕ} {e : Expression} {c : Command} → Holds s lo (encode e ++ encodeCommand c)
@@ -150,8 +149,7 @@ module _ {s : List ℕ} {end : ℕ} {here : Here} {st : State} (n b : Node) (nd 
           let jj : j ≡ cond (eqb W 16) 5 4 = rw (ej, nd .kind) in
           record {
             keeps = keeps-then (x .keeps) (z .keeps);
-            did =
-                did-at (cmdSays here ways (unlabelled text sc h (y .tree))) _
+            did = did-at (cmdSays here ways (unlabelled text sc h (y .tree))) _
                 (did-fresh e (did-put (did-then (did-put (with-ways text sc here ways h (u .test) (x .did)) f) (z .did)) f₂)) (same-eq (sym ef))
                 (λ v. code-is (simp (append-assoc, jj, em)) (ap (ofCmd h) (sym em)) (omega (arith, ap G.cmdLabels em))) (omega arith);
           };

@@ -133,8 +133,7 @@ module _ (g : Bool) (text : List ℕ) {s₀ : List ℕ} {from end top : ℕ} (st
     item-says : {size next : ℕ} {c : Verdict} → size ≡ getD s at 0 → next ≡ at + 2 + size → JudgesItem g text s next (top + 2 * k) c
         → Says c (judged g text (p .scope) (front .part .constant))
     unfolding encodeName
-    item-says es en ju = let u = front in let c = u .part .constant in
-        ju .by (p .scope) (at + 6) c (p .shows) (item-fine .0 .constant)
+    item-says es en ju = let u = front in let c = u .part .constant in ju .by (p .scope) (at + 6) c (p .shows) (item-fine .0 .constant)
         (keeps-lies (p .left .keeps) (omega arith) (second (encodeName (u .part .name)) (encodeConstant c) (at + 6) (u .lies) (omega arith)))
         (omega (arith, p .left .keeps .above at (p .left .above)))
 

@@ -237,8 +237,7 @@ module _ {s : List ℕ} {end : ℕ} {here : Here} {st : State} (n : Node) (nd : 
         let sa = jv .by sc _ K (y .shows)
         (vector-fine y .0) (u .lies-list) (omega arith) in let d = de .by (vector-names ee y) in let w = says-word (forVector text sc K) sa in
         let two : here .top + 2 * length (u .left ∷ []) ≡ here .top + 2 = omega arith in
-        rw (u .same)
-        (record {
+        rw (u .same) (record {
           after = record {
             shows = rw two at (d .shows);
             height = rw (eh, w);
@@ -298,8 +297,7 @@ module _ {s : List ℕ} {end : ℕ} {here : Here} {st : State} (n : Node) (nd : 
       by = λ y. let u = values-is y in let sc = y .scope in let h = here .height in let ns = u .left in let x = g .by (values-args y) in
           let d = de .by (values-names y) in let v : n .value ≡ 4 * length ns = nd .value ∙ u .value-of ∙ names-long ns in let two : here .top + 2
           * length ns ≡ top = omega arith in
-          rw (u .same)
-          (record {
+          rw (u .same) (record {
             after = record {
               shows = rw two at (d .shows);
               height = omega arith;

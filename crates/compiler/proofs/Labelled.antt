@@ -210,13 +210,11 @@ module _ {s : List ℕ} {end : ℕ} {here : Here} {st : State} (n : Node) (nd : 
       → GaveC text s s₁ end here ways t t₁ st r
   unfolding inCommand inCase misplaced
   unlabelled-gave text ways {s₁} {t} {t₁} {r} g = record {
-    by = λ y.
-        let u = bare-is y in let x = g .by y in let sc = y .scope in let h = here .height in let lv = leavableBy ways here in
-        record {
-          keeps = x .keeps;
-          did = did-as _ _ (x .did)
-              (same-eq (ap (inCase text sc lv h) (u .same) ∙ ap (inCommand text sc lv h) (sym (u .same)))) (λ k v. refl) (omega arith);
-        };
+    by = λ y. let u = bare-is y in let x = g .by y in let sc = y .scope in let h = here .height in let lv = leavableBy ways here in record {
+      keeps = x .keeps;
+      did = did-as _ _ (x .did)
+          (same-eq (ap (inCase text sc lv h) (u .same) ∙ ap (inCommand text sc lv h) (sym (u .same)))) (λ k v. refl) (omega arith);
+    };
   }
 
 pub gave-r-at : (text : List ℕ) {s s′ t t′ : List ℕ} {end : ℕ} {d d′ : Here} {w w′ : Ways} {st r : State} → d′ ≡ d → w′ ≡ w

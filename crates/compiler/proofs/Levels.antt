@@ -214,27 +214,25 @@ module _ {s table : List ℕ} {from end left strings : ℕ} {l : Progress} (y : 
     groupHere = record { top = k .top; height = 0; left = left; strings = strings; routine = false }
 
     abbrev pub ready-fs : {st : State} → st ≡ flat (k .state) → ReadyFs s₁ from end groupHere (record { tall = l .done .tall; state = st })
-    ready-fs {st} e =
-        let x = names-known in let f = x .did [] in let sl : st .label ≡ k .state .label = rw e in
-        record {
-          base = y .base;
-          scope = functionsAfter text (l .functions) (y .walk .scope) (grp .functions);
-          functions = grp .functions;
-          lies = keeps-lies (x .keeps) (y .above) (rw (grp .same) at (y .lies));
-          ends = omega (arith, group-sized);
-          above = y .above;
-          long = omega arith;
-          small = y .small;
-          shows = x .shows;
-          room = omega (arith, group-sized);
-          height = omega (arith, group-sized);
-          label = omega (arith, group-sized, sl);
-          some = omega arith;
-          strings = y .names;
-          shallow = group-depth;
-          fine = subst (FineDeclaration STRINGS) (grp .same) (y .fine);
-          low = rw e;
-        }
+    ready-fs {st} e = let x = names-known in let f = x .did [] in let sl : st .label ≡ k .state .label = rw e in record {
+      base = y .base;
+      scope = functionsAfter text (l .functions) (y .walk .scope) (grp .functions);
+      functions = grp .functions;
+      lies = keeps-lies (x .keeps) (y .above) (rw (grp .same) at (y .lies));
+      ends = omega (arith, group-sized);
+      above = y .above;
+      long = omega arith;
+      small = y .small;
+      shows = x .shows;
+      room = omega (arith, group-sized);
+      height = omega (arith, group-sized);
+      label = omega (arith, group-sized, sl);
+      some = omega arith;
+      strings = y .names;
+      shallow = group-depth;
+      fine = subst (FineDeclaration STRINGS) (grp .same) (y .fine);
+      low = rw e;
+    }
 
 -- the walk as the code counts it
 abbrev counted : Walk → ℕ → Walk

@@ -108,8 +108,7 @@ module _ (text t₀ : List ℕ) {s₀ table₀ : List ℕ} {base end left string
     abbrev pub program-one : IsDeclaration s₀ at end (p .left-over .rest)
     program-one = is-declaration (p .left-over .rest) (p .left-over .lies) (p .left-over .ends) lt
 
-    pub program-sizes : let u = program-one in
-        ((size ≡ length (encodeDeclared (u .part)))
+    pub program-sizes : let u = program-one in ((size ≡ length (encodeDeclared (u .part)))
         × (length (encodeProgram (p .left-over .rest)) ≡ 2 + length (encodeDeclared (u .part)) + length (encodeProgram (u .more))))
         × (declarationDepth (u .part) ≤ left) × (programDepth (u .more) ≤ left)
     unfolding programDepth

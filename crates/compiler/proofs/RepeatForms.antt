@@ -258,8 +258,7 @@ module _ {s : List ℕ} {end : ℕ} {here : Here} {st : State} (n : Node) (nd : 
         c .by (forms (y .tree .forms)) (repeat-items (y .tree .forms) (rw (repeated-middle y) (u .1 .lies-list)) (omega (arith, repeated-middle y)))
 
     pub repeated-few : (y : ReadyR s end here st) → (1 ≤ k) × (st .label + 3 * k + 3 ≤ 2 ^ 29)
-    repeated-few y = let u = repeated-is y in
-        (omega (arith, repeated-count y), omega (arith, repeated-count y, forms-entries (y .tree .forms)))
+    repeated-few y = let u = repeated-is y in (omega (arith, repeated-count y), omega (arith, repeated-count y, forms-entries (y .tree .forms)))
 
     module _ {a b : State} {t t₁ : List ℕ} (e : Fresh (3 * k) st a) (f : Emits (topsCode (st .label) k) [] t t₁ a b) where
       abbrev pub repeated-body : ReadyR s end here st → ReadyU s middle here b

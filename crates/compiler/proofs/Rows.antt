@@ -112,9 +112,7 @@ twelve nd w e t = rw (nd .place ∙ e) at (w .by nothing t)
 module _ (text : List ℕ) {s : List ℕ} {end top : ℕ} {st : State} (n : Node) (nd : NodeAt s end n) {a : State} (w : Faulted (n .place) 12 st a) where
   pub misplaced-default : (n .kind ≡ 28 → ⊥) → MisplacesLabel text s end top st a
   unfolding misplaced
-  misplaced-default q = record {
-    by = λ sc l sh. elim [ aCase k e h en f ↦ λ t. absurd (q (nd .kind ∙ k)) | aDefault k e ↦ λ t. twelve nd w e t ];
-  }
+  misplaced-default q = record { by = λ sc l sh. elim [ aCase k e h en f ↦ λ t. absurd (q (nd .kind ∙ k)) | aDefault k e ↦ λ t. twelve nd w e t ] }
 
   pub misplaced-case : {j : Verdict} {r : State} → n .kind ≡ 28 → Judges text s (n .inner) top j → Blames j a r → MisplacesLabel text s end top st r
   unfolding misplaced
@@ -122,8 +120,7 @@ module _ (text : List ℕ) {s : List ℕ} {end top : ℕ} {st : State} (n : Node
     by = λ sc l sh. elim [
       | aCase {lo = lo} {c = c} k e h en f ↦ λ t. did-as nothing 0
           (did-then (twelve nd w e t) (b .by (judge text sc c) (g .by sc lo c sh f h (nd .inner ∙ en)) t)) (same-eq (sym (append-nil _)))
-          (λ v z. refl)
-          (omega arith)
+          (λ v z. refl) (omega arith)
       | aDefault k e ↦ λ t. absurd (omega arith)
     ];
   }

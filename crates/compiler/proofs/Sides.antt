@@ -30,13 +30,11 @@ use Rattle.compiler.proofs.Guards.{IsClosed, expression-closed, kind-of
 -- ---- places and values of records
 
 pub place-of : {s x : List ℕ} {lo end : ℕ} (u : IsClosed x) → Holds s lo x → end ≡ lo + length x → getD s (end - 2) 0 ≡ u .place
-place-of u h e =
-    let w = u .inner in let v = u .value in let p = u .place in let k = u .kind in
+place-of u h e = let w = u .inner in let v = u .value in let p = u .place in let k = u .kind in
     place-is w v p k (rw (u .is) at h) (rw (e, u .is))
 
 pub value-of : {s x : List ℕ} {lo end : ℕ} (u : IsClosed x) → Holds s lo x → end ≡ lo + length x → getD s (end - 3) 0 ≡ u .value
-value-of u h e =
-    let w = u .inner in let v = u .value in let p = u .place in let k = u .kind in
+value-of u h e = let w = u .inner in let v = u .value in let p = u .place in let k = u .kind in
     value-is w v p k (rw (u .is) at h) (rw (e, u .is))
 
 pub place-closed : (e : Expression) → expression-closed e .place ≡ placeOf e
@@ -123,8 +121,7 @@ monadic-other text {s} {s₁} {t} {t₁} {o} {end} {here} {st} {r} n1 n2 n3 n4 g
       let ef : cond (eqb o 50) (unlessSide (placeOf (y .tree)) (sideOf E)) [] ≡ [] = rw (ne-eqb o 50 n1) in
       record {
         keeps = x .keeps;
-        did =
-            did-as (exprSays here (resolvedMonadic o E)) _ (x .did) (same-eq (simp (append-nil, ef))) (λ n v. code-is (simp (append-nil, ea, em))
+        did = did-as (exprSays here (resolvedMonadic o E)) _ (x .did) (same-eq (simp (append-nil, ef))) (λ n v. code-is (simp (append-nil, ea, em))
             (ap (ofExpr h) (sym em)) (ap exprLabels (sym em))) (omega arith);
       };
 }
@@ -132,8 +129,7 @@ monadic-other text {s} {s₁} {t} {t₁} {o} {end} {here} {st} {r} n1 n2 n3 n4 g
 -- ---- what a name means, as a side
 
 abbrev pub Of : (say : Here → Side → ℕ → Code) (name place m : ℕ) (t t′ : List ℕ) (st r : State) → Type 0
-Of say name place m t t′ st r =
-    (x : Here) (f : N.Found) → m ≡ found f → Did (onFound f (fault name 8) [] ++ unlessSide place (sideOf (ofMeaning f)))
+Of say name place m t t′ st r = (x : Here) (f : N.Found) → m ≡ found f → Did (onFound f (fault name 8) [] ++ unlessSide place (sideOf (ofMeaning f)))
     (say x (sideOf (ofMeaning f))) 0 t t′ st r
 
 module _ (say : Here → Side → ℕ → Code) (i : ℕ → I.Item) where
@@ -205,8 +201,7 @@ module _ (text : List ℕ) (sc : Scope) (h : ℕ) where
   unfolding suffixes sideOf endsInCall
   no-call b E T.noSuffixes e f = f e
   no-call b E (T.call es ss) e f = no-call true (R.call E (expressions text sc (under ss h + 2) es)) ss e (λ z. refl)
-  no-call b E (T.index d ss) e f =
-      no-call false (R.index E (expression text sc (under ss h + 1) d)) ss e (λ z. contradiction cc)
+  no-call b E (T.index d ss) e f = no-call false (R.index E (expression text sc (under ss h + 1) d)) ss e (λ z. contradiction cc)
 
   call-of : (b : Bool) → (O.suffixedKind b ≡ 129 → ⊥) → b ≡ true
   unfolding O.suffixedKind
@@ -222,8 +217,7 @@ module _ (text : List ℕ) (sc : Scope) (h : ℕ) where
   no-side (T.bracketed p e) f n m = absurd (n .0 .0 .1 refl)
   no-side (T.valof p c) f n m = refl
   no-side (T.monadic p o e) f n m = no-monadic o (expression text sc h e) (m refl)
-  no-side (T.suffixed e ss) f n m =
-      no-call false (expression text sc (under ss h) e) ss (call-of (endsInCall false ss) (n .1))
+  no-side (T.suffixed e ss) f n m = no-call false (expression text sc (under ss h) e) ss (call-of (endsInCall false ss) (n .1))
       (λ z. contradiction cc)
   no-side (T.dyadic e T.noOperations) f n m = absurd (f .2 refl)
   no-side (T.dyadic e (T.operation o d os)) f n m = no-operation (R.binary o (expression text sc h e) (expression text sc (h + 1) d)) os refl
@@ -237,8 +231,7 @@ refuse-gave text {s} {s₁} {t} {t₁} {end} {place} {here} {st} {a} {r} g f = r
   by = λ c. record {
     by = λ y. let x = g .by y in record {
       keeps = x .keeps;
-      did =
-          did-as (c (y .scope) (y .tree)) _ (did-then (x .did) (f .by (λ n. record { items = []; heights = []; labels = 0 }) t₁)) same-refl
+      did = did-as (c (y .scope) (y .tree)) _ (did-then (x .did) (f .by (λ n. record { items = []; heights = []; labels = 0 }) t₁)) same-refl
           (λ n v. absurd (fault-not (inExpression text (y .scope) (leavable here) (here .height) (y .tree)) place v)) (omega arith);
     };
   };
@@ -275,8 +268,7 @@ module _ (text : List ℕ) {s s′ t t′ : List ℕ} {end : ℕ} (place : ℕ) 
   pub address-refused : NoSide (n .kind) → (n .kind ≡ 128 → n .value ≡ 49 → ⊥) → GaveRefused text s s′ end place here t t′ st r
       → GaveAddress text s s′ end place here t t′ st r
   address-refused no-side-kind not-pling g = record {
-    by = λ y.
-        let sc = y .scope in let e = y .tree in let c = expression-closed e in let E = expression text sc (here .height) e in
+    by = λ y. let sc = y .scope in let e = y .tree in let c = expression-closed e in let E = expression text sc (here .height) e in
         let k = nd .kind ∙ kind-of c (y .lies) (y .ends) in let v = nd .value ∙ value-of c (y .lies) (y .ends) in
         let z = no-side text sc (here .height) e (y .fine) (subst NoSide k no-side-kind) (λ i j. not-pling (k ∙ i) (v ∙ j)) in
         let x = g .by (λ sc e. exprSays here (addressOf (sideOf (expression text sc (here .height) e)))) .by y in
@@ -291,8 +283,7 @@ module _ (text : List ℕ) {s t t′ : List ℕ} {end : ℕ} (place : ℕ) {here
     by = λ y. let u = is-name (find n nd q y) in let sc = y .scope in let w = lookup text sc (u .name) in let a : n .inner + 2 ≡ end - 2
         = omega arith in let b : n .inner + 1 ≡ end - 3 = omega arith in let ex : nameAt s (n .inner) ≡ u .name
         = rw (a, u .place-of, b, u .width-of) in
-        rw (u .same)
-        (record {
+        rw (u .same) (record {
           keeps = keeps-all;
           did = more _ (subst (λ (p : ℕ). Did (onFound w (fault p 8) [] ++ unlessSide place (sideOf (ofMeaning w)))
               (exprSays here (addressOf (sideOf (ofMeaning w)))) 0 t t′ st r) (nd .place ∙ u .place-of) (f .by here w
@@ -338,8 +329,7 @@ module _ {s : List ℕ} {end : ℕ} {here : Here} {st : State} (n : Node) (nd : 
 
   pub indexed-tag : (y : ReadyE s end here st) → getD s (n .inner - 1) 0 ≡ 49
   unfolding expression-closed shut
-  indexed-tag y =
-      let u = indexed-is y in let Y = indexed-part y in
+  indexed-tag y = let u = indexed-is y in let Y = indexed-part y in
       let k = sym (ap (λ (e : Expression). expression-closed e .kind) (u .same)) ∙ sym (kind-of (expression-closed (y .tree)) (y .lies) (y .ends))
       ∙ q .is in
       index-tag (last (u .list) (applied-lies Y) (applied-ends Y) (indexed-some y)) (index-of (endsInCall false (u .list)) k)
@@ -400,8 +390,7 @@ module _ (text : List ℕ) {s s′ t t′ : List ℕ} {end : ℕ} (place : ℕ) 
   pub side-refused : NoSide (n .kind) → (n .kind ≡ 128 → n .value ≡ 49 → ⊥) → GaveRefused text s s′ end place (raised 1 here) t t′ st r
       → GaveSide text s s′ end place here t t′ st r
   side-refused no-side-kind not-pling g = record {
-    by = λ y.
-        let sc = y .scope in let e = y .tree in let c = expression-closed e in let h = here .height in
+    by = λ y. let sc = y .scope in let e = y .tree in let c = expression-closed e in let h = here .height in
         let k = nd .kind ∙ kind-of c (y .lies) (y .ends) in let v = nd .value ∙ value-of c (y .lies) (y .ends) in
         let z = no-side text sc (h + 1) e (y .fine) (subst NoSide k no-side-kind) (λ i j. not-pling (k ∙ i) (v ∙ j)) in
         let x = g .by (λ sc e. targetSays here (targetOf (sideOf (expression text sc (h + 1) e)))) .by y in
@@ -416,8 +405,7 @@ module _ (text : List ℕ) {s t t′ : List ℕ} {end : ℕ} (place : ℕ) (here
     by = λ y. let u = is-name (find n nd q y) in let sc = y .scope in let w = lookup text sc (u .name) in let h = here .height in let a : n .inner + 2
         ≡ end - 2 = omega arith in let b : n .inner + 1 ≡ end - 3 = omega arith in let ex : nameAt s (n .inner) ≡ u .name
         = rw (a, u .place-of, b, u .width-of) in
-        rw (u .same)
-        (record {
+        rw (u .same) (record {
           keeps = keeps-all;
           did = more _ (subst (λ (p : ℕ). Did (onFound w (fault p 8) [] ++ unlessSide place (sideOf (ofMeaning w)))
               (targetSays here (targetOf (sideOf (ofMeaning w)))) 0 t t′ st r) (nd .place ∙ u .place-of) (f .by here w
@@ -439,8 +427,7 @@ module _ (text : List ℕ) {s : List ℕ} {end : ℕ} (place : ℕ) {here : Here
         let ou : u .operator ≡ 49 = sym (u .value-of) ∙ sym (nd .value) ∙ ev in
         subst (λ (e : Expression). Result (inExpression text sc (leavable here) (h + 1) e ++ unlessSide place (sideOf (expression text sc (h + 1) e)))
         (targetSays here (targetOf (sideOf (expression text sc (h + 1) e)))) (length (encode (y .tree))) (y .base) (raised 1 here) s s′ t t₃ st r)
-        (sym (u .same ∙ ap (λ (o : ℕ). T.monadic (u .place) o (u .part)) ou))
-        (record {
+        (sym (u .same ∙ ap (λ (o : ℕ). T.monadic (u .place) o (u .part)) ou)) (record {
           keeps = x .keeps;
           did = did-as _ _ (did-after f (did-put (x .did) f₂)) (same-eq (sym (append-nil _) ∙ sym (append-nil _))) (λ m v. refl) (omega arith);
         });
@@ -463,16 +450,14 @@ module _ {s : List ℕ} {end : ℕ} {here : Here} {st : State} (n : Node) (nd : 
             → GaveSideIndex text s s₂ end here t t₄ st d
         unfolding inExpression expression G.targetCode ofTarget G.targetLabels sideOf
         side-index-gave {s₂} {t₃} {t₄} {c} {d} g₂ f₂ place = record {
-          by = λ y.
-              let y₀ = with-state (f₀ .label) y in let U = indexed-is n nd q m y₀ in let Y = indexed-part n nd q m y₀ in let sc = y .scope in
+          by = λ y. let y₀ = with-state (f₀ .label) y in let U = indexed-is n nd q m y₀ in let Y = indexed-part n nd q m y₀ in let sc = y .scope in
               let h = here .height in let k = h + 1 in let p = U .left in let u = last-index n nd q m ei ez es y₀ in let x = g .by (side-left y) in
               let w = g₂ .by (side-right y) in let L = leavable here in let kk : k + 1 ≡ h + 2 = omega arith in
               let ef = index-faults text sc k p (u .init) (u .part) (u .same) L in let er = index-means text sc k p (u .init) (u .part) (u .same) in
               let E = suffixes text sc k (expression text sc (under (U .list) k) p) (U .list) in
               subst (λ (e : Expression). Result (inExpression text sc L k e ++ unlessSide place (sideOf (expression text sc k e)))
               (targetSays here (targetOf (sideOf (expression text sc k e)))) (length (encode (y .tree))) (y .base) (raised 1 here) s s₂ t t₄ st d)
-              (sym (U .same))
-              (record {
+              (sym (U .same)) (record {
                 keeps = keeps-then (x .keeps) (w .keeps);
                 did = did-as (targetSays here (targetOf (sideOf E))) _ (did-after f₀ (did-put (did-then (did-emit (x .did) f) (w .did)) f₂))
                     (same-eq (sym ef ∙ sym (append-nil _) ∙ ap (λ (e : Expr). (inExpression text sc L (under (U .list) k) p ++ inSuffixes text sc L k

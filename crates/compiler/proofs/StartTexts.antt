@@ -38,9 +38,7 @@ start-put {table} {label} {n} f h p = record { by = λ start s. rw (s .is n h (f
 
 pub start-none : {table : List ℕ} {label n at : ℕ} {t : List ℕ} → FindsGlobal table label n → 400 ≤ n → WritesStart table label at at t t
 unfolding lines
-start-none f h = record {
-  by = elim [ nowhere ↦ λ s. appends-none | inGlobal m ↦ λ s. absurd (let q = s .has m refl in f .none h m (q .0) (q .1)) ];
-}
+start-none f h = record { by = elim [ nowhere ↦ λ s. appends-none | inGlobal m ↦ λ s. absurd (let q = s .has m refl in f .none h m (q .0) (q .1)) ] }
 
 -- ---- all of them: k functions are done
 

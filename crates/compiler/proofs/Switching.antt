@@ -57,8 +57,7 @@ commands-row {at = at} (T.andCommand c cs) f h e = an-item (encodeCommand c) (en
     (λ z lies more en. andMore {at = at} (omega arith) (command-at c (f .0) lies z) (commands-row cs (f .1) more en))
 
 abbrev pub list-of : {s : List ℕ} {from end top : ℕ} → ReadyLabels s from end top → Listed (CommandAt s) s from end top
-list-of y =
-    record
+list-of y = record
     { base = y .base; scope = y .scope; shows = y .shows; all = marks (y .commands); row = commands-row (y .commands) (y .fine) (y .lies) (y .ends) }
 
 -- a command's own labels

@@ -88,8 +88,7 @@ module _ {s : List ℕ} {lo end : ℕ} where
   view (T.suffixed e ss) h q =
       let w = encode e ++ encodeSuffixes ss in let k = suffixedKind (endsInCall false ss) in let p = placeOf e in let v = length (encode e) in
       so (kind-is w v p k h q) (suffixedCase (endsInCall false ss) (kid w v p k h q) (size-is w v p k h q) (value-is w v p k h q) (ends w v p k h q))
-  view (T.dyadic e os) h q =
-      let w = encode e ++ encodeOperations os in let p = placeOf e in let v = length (encode e) in
+  view (T.dyadic e os) h q = let w = encode e ++ encodeOperations os in let p = placeOf e in let v = length (encode e) in
       so (kind-is w v p 131 h q) (aDyadic (kid w v p 131 h q) (size-is w v p 131 h q) (value-is w v p 131 h q) (ends w v p 131 h q))
 
 pub find : {s : List ℕ} {end k : ℕ} {here : Here} {st : State} (n : Node) → NodeAt s end n → n .kind ≡ k → (y : ReadyE s end here st)

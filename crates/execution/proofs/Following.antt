@@ -27,8 +27,7 @@ use Rattle.execution.specs.Executes.{image, RanBy, RunsText, ExecutedBy,
 module _ {text memory memory₁ input output : List ℕ} {budget : ℕ} {a : Assembled} (l : Loads (image text (length memory)) a memory₁) where
   pub text-refused : {r : Refusal} → a ≡ A.Refused r → RunsText text memory memory₁ input output output budget (E.Unassembled r)
   text-refused {r} e = record {
-    by =
-        subst (λ (x : Assembled). RanBy (image text (length memory)) x memory₁ input output output budget (E.Unassembled r)) (sym e ∙ l .answers)
+    by = subst (λ (x : Assembled). RanBy (image text (length memory)) x memory₁ input output output budget (E.Unassembled r)) (sym e ∙ l .answers)
         (refl, l .fills, refl);
   }
 
@@ -36,8 +35,7 @@ module _ {text memory memory₁ input output : List ℕ} {budget : ℕ} {a : Ass
       → Ends (run first memory₁ input output budget) ran memory₂ output₂
       → RunsText text memory memory₂ input output output₂ budget (E.Ran ran)
   text-ran {first} {ran} {memory₂} {output₂} e x = record {
-    by =
-        subst (λ (x : Assembled). RanBy (image text (length memory)) x memory₂ input output output₂ budget (E.Ran ran)) (sym e ∙ l .answers)
+    by = subst (λ (x : Assembled). RanBy (image text (length memory)) x memory₂ input output output₂ budget (E.Ran ran)) (sym e ∙ l .answers)
         (record {
           ran = ran;
           answers = refl;
@@ -75,9 +73,7 @@ module _ {source scratch scratch′ text text′ : List ℕ} {a : Compiled} (c :
     where
       go : (x : Refused) → d ≡ x → C.Accepted n ≡ answerOf source x → text′ ≡ textAfter source (length text) x → Front n
       go (refused number place) k q w = contradiction cc
-      go accepted k q w =
-          let z : n ≡ length (textOf source) = cc in
-          let zeros : List ℕ = replicate (length text - length (textOf source)) 0 in
+      go accepted k q w = let z : n ≡ length (textOf source) = cc in let zeros : List ℕ = replicate (length text - length (textOf source)) 0 in
           record {
             accepts = k;
             fits = omega (arith, z, ap length w, length-append (textOf source) zeros);
@@ -97,20 +93,16 @@ module _ {source scratch scratch′ text text′ : List ℕ} {a : Compiled} (c :
 
     delivered : (ran : Ran) → x ≡ E.Ran ran → Delivers source memory memory′ input output output′ budget ran
     delivered ran q = record {
-      follows = λ first k s over below.
-          let came = go (image (textOf source) (length memory) .answer) first k (runs .by) in
+      follows = λ first k s over below. let came = go (image (textOf source) (length memory) .answer) first k (runs .by) in
           subst (Follows (stringsIn source) (placementOf source (image (textOf source) (length memory) .table) first) s (length output) budget)
-          (came-out came)
-          (c .faithful (front e .accepts) .follows (length memory) 32767 first k input s over below output budget);
+          (came-out came) (c .faithful (front e .accepts) .follows (length memory) 32767 first k input s over below output budget);
     }
       where
         go : (y : Assembled) (first : ℕ) → y ≡ A.Accepted first
             → RanBy (image (textOf source) (length memory)) y memory′ input output output′ budget x
             → Ends (run first (image (textOf source) (length memory) .memory) input output budget) ran memory′ output′
         go (A.Refused w) first k z = contradiction cc
-        go (A.Accepted m) first k z =
-            let u : m ≡ first = cc in
-            let v : z .ran ≡ ran = cc in
+        go (A.Accepted m) first k z = let u : m ≡ first = cc in let v : z .ran ≡ ran = cc in
             subst (λ (j : ℕ). Ends (run j (image (textOf source) (length memory) .memory) input output budget) ran memory′ output′) u
             (subst (λ (y : Ran). Ends (run m (image (textOf source) (length memory) .memory) input output budget) y memory′ output′) v (z .ends))
 

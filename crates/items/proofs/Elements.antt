@@ -25,26 +25,22 @@ module _ (text : List ℕ) (at : ℕ) (e : head (drop at text) ≡ 90) {t : Bool
 
     pub last-whole : end ≡ length text → M.Whole ≡ asNext (elementAt at (drop at text))
     unfolding elementAt asNext trailing
-    last-whole h =
-        let i : at < length text = inside text at e (omega arith) in
-        rw (
-          e,
-          mark-got 90 _ (sym m ∙ k),
-          drop-drop 1 at text,
-          eq-eqb (gaps false (drop (at + 1) text)) (length (drop (at + 1) text)) (omega (arith, l)),
-        )
+    last-whole h = let i : at < length text = inside text at e (omega arith) in rw (
+      e,
+      mark-got 90 _ (sym m ∙ k),
+      drop-drop 1 at text,
+      eq-eqb (gaps false (drop (at + 1) text)) (length (drop (at + 1) text)) (omega (arith, l)),
+    )
 
     pub last-more : (end ≡ length text → ⊥) → M.Unreadable end ≡ asNext (elementAt at (drop at text))
     unfolding elementAt asNext trailing
-    last-more h =
-        let i : at < length text = inside text at e (omega arith) in
-        rw (
-          e,
-          mark-got 90 _ (sym m ∙ k),
-          drop-drop 1 at text,
-          ne-eqb (gaps false (drop (at + 1) text)) (length (drop (at + 1) text)) (λ j. h (omega (arith, l))),
-          g,
-        )
+    last-more h = let i : at < length text = inside text at e (omega arith) in rw (
+      e,
+      mark-got 90 _ (sym m ∙ k),
+      drop-drop 1 at text,
+      ne-eqb (gaps false (drop (at + 1) text)) (length (drop (at + 1) text)) (λ j. h (omega (arith, l))),
+      g,
+    )
 
 -- ---- an item
 

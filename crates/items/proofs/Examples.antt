@@ -47,8 +47,7 @@ number-table = "65535" gives got 65535 5 ∷ "65536" gives got 65536 5 ∷ "9999
 -- ---- whole texts
 
 abbrev text-table : Table String Scan
-text-table =
-    "$ 12: LIP2 Z" gives read (at 2 (label 12) ∷ at 6 (instruction 0 true P (number false 2)) ∷ []) ∷
+text-table = "$ 12: LIP2 Z" gives read (at 2 (label 12) ∷ at 6 (instruction 0 true P (number false 2)) ∷ []) ∷
     -- comments before $, and directly after $ and Z; only the colon stands between two items
     "/$\n$/\nZ/Z\n " gives read [] ∷
     "$\n1:X22\nZ\n" gives read (at 2 (label 1) ∷ at 4 (instruction 7 false none (number false 22)) ∷ []) ∷

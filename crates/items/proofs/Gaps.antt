@@ -8,8 +8,7 @@ use Rattle.items.specs.Parts.{inGap, inComment}
 pub gap-byte : (comment : Bool) (c : ℕ) (r : List ℕ) → gaps comment (c ∷ r) ≡ cond (inGap comment c) (suc (gaps (inComment comment c) r)) 0
 unfolding gaps inGap inComment
 gap-byte true c r = refl
-gap-byte false c r =
-    by-equal c 32 (λ e. rw e refl) (λ a. by-equal c 10 (λ e. rw e refl) (λ b. by-equal c 47 (λ e. rw e refl) (λ d.
+gap-byte false c r = by-equal c 32 (λ e. rw e refl) (λ a. by-equal c 10 (λ e. rw e refl) (λ b. by-equal c 47 (λ e. rw e refl) (λ d.
     rw (ne-eqb c 32 a, ne-eqb c 10 b, ne-eqb c 47 d) refl)))
 
 module _ (text : List ℕ) (i : ℕ) (comment : Bool) where

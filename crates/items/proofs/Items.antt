@@ -40,16 +40,13 @@ pub record ItemRead (text : List ℕ) (at : ℕ) (r : Item) (past : ℕ) : Type 
 module _ (text : List ℕ) (at : ℕ) {r : ReadItem} (e : r ≡ asItemAt at (item (drop at text))) where
   pub item-reads : {i : Item} {p : ℕ} → r ≡ C.Got i p → ItemRead text at i p
   unfolding asItemAt
-  item-reads {i} {p} k =
-      by-got (item (drop at text))
-      (λ x n d. let j : r ≡ C.Got (asItem x) (at + n) = rw d at e in
+  item-reads {i} {p} k = by-got (item (drop at text)) (λ x n d. let j : r ≡ C.Got (asItem x) (at + n) = rw d at e in
       record { value = x; same = cc; reads = record { width = n; reading = d; ends = cc } })
       (λ d. let j : r ≡ C.Nothing = rw d at e in contradiction cc)
 
   pub item-fails : r ≡ C.Nothing → item (drop at text) ≡ nothing
   unfolding asItemAt
-  item-fails k =
-      by-got (item (drop at text)) (λ x n d. let j : r ≡ C.Got (asItem x) (at + n) = rw d at e in contradiction cc) (λ d. d)
+  item-fails k = by-got (item (drop at text)) (λ x n d. let j : r ≡ C.Got (asItem x) (at + n) = rw d at e in contradiction cc) (λ d. d)
 
 -- the same item, n bytes on
 moved : {p : ℕ} (n at : ℕ) → p ≡ at + n → (g : Got I.Item) → asItemAt p g ≡ asItemAt at (wide n g)
@@ -63,9 +60,7 @@ module _ (text : List ℕ) (at : ℕ) where
   module _ {n p : ℕ} (h : Reads decimal text at n p) where
     pub a-label : eqb (head (drop p text)) 58 ≡ true → C.Got (K.Label n) (p + 1) ≡ asItemAt at (labelItem (drop at text))
     unfolding labelItem asItem
-    a-label e =
-        let b : Reads (byte 58) text p true (p + 1) = byte-reads text p 58 e in
-        an-item labelItem text at {i = I.label n}
+    a-label e = let b : Reads (byte 58) text p true (p + 1) = byte-reads text p 58 e in an-item labelItem text at {i = I.label n}
         (record { width = h .width + (b .width + 0); reading = rw (h .reading, onto h, b .reading); ends = omega arith })
 
     pub label-fails : eqb (head (drop p text)) 58 ≡ false → labelItem (drop at text) ≡ nothing
@@ -89,13 +84,11 @@ module _ (text : List ℕ) (at : ℕ) where
       pub a-global : {m p : ℕ} → Reads decimal text (at + 1) m p → Reads ended text p true p
           → C.Got (K.Global n m) p ≡ asItemAt at (globalLabel n (drop at text))
       unfolding globalLabel asItem
-      a-global h k =
-          an-item (globalLabel n) text at {i = I.global n _}
-          (record {
-            width = b .width + (h .width + (k .width + 0));
-            reading = rw (b .reading, onto b, h .reading, onto h, k .reading);
-            ends = omega arith;
-          })
+      a-global h k = an-item (globalLabel n) text at {i = I.global n _} (record {
+        width = b .width + (h .width + (k .width + 0));
+        reading = rw (b .reading, onto b, h .reading, onto h, k .reading);
+        ends = omega arith;
+      })
 
       pub global-open : {m p : ℕ} → Reads decimal text (at + 1) m p → ended (drop p text) ≡ nothing → globalLabel n (drop at text) ≡ nothing
       unfolding globalLabel
@@ -126,12 +119,11 @@ module _ (text : List ℕ) (at : ℕ) where
     pub instruction-reads : {x : I.Operand} {p : ℕ} → Reads operand text t x p → Reads ended text p true p
         → Reads (instructionItem f) text at (I.instruction f i b x) p
     unfolding instructionItem
-    instruction-reads h k =
-        record {
-          width = hi .width + (hb .width + (h .width + (k .width + 0)));
-          reading = rw (hi .reading, onto hi, hb .reading, onto hb, h .reading, onto h, k .reading);
-          ends = omega arith;
-        }
+    instruction-reads h k = record {
+      width = hi .width + (hb .width + (h .width + (k .width + 0)));
+      reading = rw (hi .reading, onto hi, hb .reading, onto hb, h .reading, onto h, k .reading);
+      ends = omega arith;
+    }
 
     pub instruction-open : {x : I.Operand} {p : ℕ} → Reads operand text t x p → ended (drop p text) ≡ nothing
         → instructionItem f (drop at text) ≡ nothing
@@ -163,12 +155,11 @@ module _ (text : List ℕ) (at : ℕ) where
 
       pub string-reads : Reads ended text p true p → Reads stringItem text at (I.string (h .characters)) p
       unfolding stringItem quotedString
-      string-reads k =
-          record {
-            width = b .width + (w + (k .width + 0));
-            reading = rw (b .reading, onto b, h .is, string-onto, k .reading);
-            ends = omega arith;
-          }
+      string-reads k = record {
+        width = b .width + (w + (k .width + 0));
+        reading = rw (b .reading, onto b, h .is, string-onto, k .reading);
+        ends = omega arith;
+      }
 
       pub string-open : ended (drop p text) ≡ nothing → stringItem (drop at text) ≡ nothing
       unfolding stringItem quotedString
@@ -213,8 +204,7 @@ module _ (text : List ℕ) (at : ℕ) {c : ℕ} (e : c ≡ head (drop at text)) 
   module _ (d : isDigit c ≡ false) (u : Unlike c (71 ∷ 67 ∷ 68 ∷ [])) {f : ℕ} (h : f ≡ functionOf c) where
     pub item-function : f < 8 → asItemAt (at + 1) (instructionItem f (drop (at + 1) text)) ≡ asItemAt at (item (drop at text))
     unfolding item
-    item-function k =
-        moved 1 at refl (instructionItem f (drop (at + 1) text)) ∙
+    item-function k = moved 1 at refl (instructionItem f (drop (at + 1) text)) ∙
         rw (← e, d, ne-eqb c 68 (u .0 .0 .1), ne-eqb c 67 (u .0 .1), ne-eqb c 71 (u .1), ← h, lt-ltb f 8 k, drop-drop 1 at text)
 
     pub item-none : 8 ≤ f → item (drop at text) ≡ nothing
@@ -223,20 +213,18 @@ module _ (text : List ℕ) (at : ℕ) {c : ℕ} (e : c ≡ head (drop at text)) 
 
   pub function-inside : {f : ℕ} → f ≡ functionOf c → f < 8 → at < length text
   unfolding functionOf
-  function-inside h k =
-      by-cases (ltb at (length text)) (λ l. ltb-true at (length text) l)
+  function-inside h k = by-cases (ltb at (length text)) (λ l. ltb-true at (length text) l)
       (λ l. absurd (omega (arith, rw (e, head-past text at (ltb-false at (length text) l)) at h)))
 
 pub no-function : (c : ℕ) → Unlike c (88 ∷ 75 ∷ 70 ∷ 84 ∷ 74 ∷ 65 ∷ 83 ∷ 76 ∷ []) → functionOf c ≡ 8
 unfolding functionOf
-no-function c h =
-    rw (
-      ne-eqb c 76 (h .0 .0 .0 .0 .0 .0 .0 .1),
-      ne-eqb c 83 (h .0 .0 .0 .0 .0 .0 .1),
-      ne-eqb c 65 (h .0 .0 .0 .0 .0 .1),
-      ne-eqb c 74 (h .0 .0 .0 .0 .1),
-      ne-eqb c 84 (h .0 .0 .0 .1),
-      ne-eqb c 70 (h .0 .0 .1),
-      ne-eqb c 75 (h .0 .1),
-      ne-eqb c 88 (h .1),
-    )
+no-function c h = rw (
+  ne-eqb c 76 (h .0 .0 .0 .0 .0 .0 .0 .1),
+  ne-eqb c 83 (h .0 .0 .0 .0 .0 .0 .1),
+  ne-eqb c 65 (h .0 .0 .0 .0 .0 .1),
+  ne-eqb c 74 (h .0 .0 .0 .0 .1),
+  ne-eqb c 84 (h .0 .0 .0 .1),
+  ne-eqb c 70 (h .0 .0 .1),
+  ne-eqb c 75 (h .0 .1),
+  ne-eqb c 88 (h .1),
+)

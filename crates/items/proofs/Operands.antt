@@ -39,30 +39,25 @@ pub record OperandRead (text : List ℕ) (at : ℕ) (o : Operand) (past : ℕ) :
 module _ (text : List ℕ) (at : ℕ) {r : ReadOperand} (e : r ≡ asOperandAt at (operand (drop at text))) where
   pub operand-reads : {o : Operand} {p : ℕ} → r ≡ A.Got o p → OperandRead text at o p
   unfolding asOperandAt
-  operand-reads {o} {p} k =
-      by-got (operand (drop at text))
-      (λ x n d. let j : r ≡ A.Got (asOperand x) (at + n) = rw d at e in
+  operand-reads {o} {p} k = by-got (operand (drop at text)) (λ x n d. let j : r ≡ A.Got (asOperand x) (at + n) = rw d at e in
       record { value = x; same = cc; reads = record { width = n; reading = d; ends = cc } })
       (λ d. let j : r ≡ A.Nothing = rw d at e in contradiction cc)
 
   pub operand-fails : r ≡ A.Nothing → operand (drop at text) ≡ nothing
   unfolding asOperandAt
-  operand-fails k =
-      by-got (operand (drop at text)) (λ x n d. let j : r ≡ A.Got (asOperand x) (at + n) = rw d at e in contradiction cc) (λ d. d)
+  operand-fails k = by-got (operand (drop at text)) (λ x n d. let j : r ≡ A.Got (asOperand x) (at + n) = rw d at e in contradiction cc) (λ d. d)
 
 -- ---- each kind of operand
 
 module _ (text : List ℕ) (at : ℕ) {v p : ℕ} where
   pub negative-reads : head (drop at text) ≡ 45 → Reads decimal text (at + 1) v p → Reads negative text at (I.number true v) p
   unfolding negative
-  negative-reads e h =
-      let b : Reads (byte 45) text at true (at + 1) = byte-reads text at 45 (eq-eqb _ 45 e) in
+  negative-reads e h = let b : Reads (byte 45) text at true (at + 1) = byte-reads text at 45 (eq-eqb _ 45 e) in
       record { width = b .width + (h .width + 0); reading = rw (b .reading, onto b, h .reading); ends = omega arith }
 
   pub labelled-reads : head (drop at text) ≡ 76 → Reads decimal text (at + 1) v p → Reads labelled text at (I.address v) p
   unfolding labelled
-  labelled-reads e h =
-      let b : Reads (byte 76) text at true (at + 1) = byte-reads text at 76 (eq-eqb _ 76 e) in
+  labelled-reads e h = let b : Reads (byte 76) text at true (at + 1) = byte-reads text at 76 (eq-eqb _ 76 e) in
       record { width = b .width + (h .width + 0); reading = rw (b .reading, onto b, h .reading); ends = omega arith }
 
   pub positive-reads : Reads decimal text at v p → Reads positive text at (I.number false v) p
@@ -109,8 +104,7 @@ module _ (text : List ℕ) (at : ℕ) (e : head (drop at text) ≡ 39) where
         by : (cs : List ℕ) → quoted 39 1 0 (drop (at + 1) text) ≡ closed cs w → n ≡ length cs
             → Reads quotation text at (I.number false v) (at + 1 + w)
         by [] k l = absurd (some l)
-        by (c ∷ cs) k l =
-            let u : v ≡ c = f ∙ first-is 39 1 (drop (at + 1) text) k in
+        by (c ∷ cs) k l = let u : v ≡ c = f ∙ first-is 39 1 (drop (at + 1) text) k in
             record { width = 1 + w; reading = opened ∙ rw (k, u); ends = omega arith }
 
   pub quotation-unclosed : quoted 39 1 0 (drop (at + 1) text) ≡ unclosed → quotation (drop at text) ≡ nothing
@@ -158,8 +152,7 @@ pub record BaseRead (text : List ℕ) (at : ℕ) (r : Based) : Type 0 where
 
 base-got : (bytes : List ℕ) → base bytes ≡ nothing → ⊥
 unfolding base
-base-got bytes =
-    by-cond (λ g. g ≡ nothing → ⊥) (eqb (head bytes) 80) (λ k. contradiction cc)
+base-got bytes = by-cond (λ g. g ≡ nothing → ⊥) (eqb (head bytes) 80) (λ k. contradiction cc)
     (by-cond (λ g. g ≡ nothing → ⊥) (eqb (head bytes) 71) (λ k. contradiction cc) (λ k. contradiction cc))
 
 pub base-reads : (text : List ℕ) (at : ℕ) {r : Based} → r ≡ asBased at (base (drop at text)) → BaseRead text at r

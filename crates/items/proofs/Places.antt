@@ -20,8 +20,7 @@ module _ (text : List ℕ) (at : ℕ) where
   head-past h = past-end head text at h
 
   pub inside : {c : ℕ} → head (drop at text) ≡ c → c < 256 → at < length text
-  inside {c} e h =
-      by-cases (ltb at (length text)) (λ k. ltb-true at (length text) k)
+  inside {c} e h = by-cases (ltb at (length text)) (λ k. ltb-true at (length text) k)
       (λ k. absurd (omega (arith, head-past (ltb-false at (length text) k))))
 
 -- ---- one reader after another
@@ -132,6 +131,5 @@ mark-got c bytes =
     (λ e. contradiction cc)
 
 pub mark-inside : (text : List ℕ) (at c : ℕ) → isGot (mark c (drop at text)) ≡ true → c < 256 → at < length text
-mark-inside text at c e h =
-    by-cases (eqb (head (drop at text)) c) (λ k. inside text at (eqb-true _ c k) h) (λ k.
+mark-inside text at c e h = by-cases (eqb (head (drop at text)) c) (λ k. inside text at (eqb-true _ c k) h) (λ k.
     let g : got true 1 ≡ nothing = sym (mark-got c (drop at text) e) ∙ mark-not text at c k in contradiction cc)

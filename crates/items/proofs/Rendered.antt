@@ -30,14 +30,12 @@ digit d h = rw (le-leb 48 (48 + d) (omega arith)) (le-leb (48 + d) 57 (omega ari
 
 one-digit : (n : ℕ) → n < 10 → Writes ((48 + n) ∷ []) n
 unfolding digits digitCount head
-one-digit n h =
-    let v : capped (0 * 10 + (48 + n - 48)) ≡ n = omega arith in
+one-digit n h = let v : capped (0 * 10 + (48 + n - 48)) ≡ n = omega arith in
     record { value = λ rest. rw (digit n h, v); count = λ rest. rw (digit n h) (omega arith); first = λ rest. digit n h }
 
 more-digits : {l : List ℕ} (n : ℕ) → n ≤ 65536 → Writes l (n / 10) → Writes (l ++ ((48 + n % 10) ∷ [])) n
 unfolding digits digitCount
-more-digits {l} n h w =
-    let d : isDigit (48 + n % 10) ≡ true = digit (n % 10) (omega arith) in
+more-digits {l} n h w = let d : isDigit (48 + n % 10) ≡ true = digit (n % 10) (omega arith) in
     let v : capped (n / 10 * 10 + (48 + n % 10 - 48)) ≡ n = omega arith in
     record {
       value = λ rest. rw append-assoc (w .value ((48 + n % 10) ∷ rest) ∙ rw (d, v));
@@ -48,8 +46,7 @@ more-digits {l} n h w =
 numeral-writes : (k n : ℕ) → n < k → n ≤ 65536 → Writes (numeral k n) n
 unfolding numeral
 numeral-writes zero n h l = absurd (omega arith)
-numeral-writes (suc k) n h l =
-    either (λ xs. Writes xs n) (ltb n 10) (λ e. one-digit n (ltb-true n 10 e)) (λ e.
+numeral-writes (suc k) n h l = either (λ xs. Writes xs n) (ltb n 10) (λ e. one-digit n (ltb-true n 10 e)) (λ e.
     let j = ltb-false n 10 e in more-digits n l (numeral-writes k (n / 10) (omega arith) (omega arith)))
 
 numeral-of : (n : ℕ) → n ≤ 65536 → Writes (numeralOf n) n
@@ -64,8 +61,7 @@ no-more n (c ∷ r) e = (rw e, rw e)
 
 decimal-text : (n : ℕ) (rest : List ℕ) → n ≤ 65536 → isDigit (head rest) ≡ false → decimal (numeralOf n ++ rest) ≡ got n (length (numeralOf n))
 unfolding decimal
-decimal-text n rest h e =
-    let w : Writes (numeralOf n) n = numeral-of n h in
+decimal-text n rest h e = let w : Writes (numeralOf n) n = numeral-of n h in
     let m : (digits n rest ≡ n) × (digitCount rest ≡ 0) = no-more n rest e in
     rw (w .first rest, w .value rest, w .count rest, m .0, m .1) (ap (got n) (omega arith))
 
@@ -74,8 +70,7 @@ decimal-text n rest h e =
 module _ (rest : List ℕ) (e : isDigit (head rest) ≡ false) where
   plain-operand : (bytes : List ℕ) → isDigit (head bytes) ≡ true → operand bytes ≡ positive bytes
   unfolding operand
-  plain-operand bytes d =
-      let b : (48 ≤ head bytes) × (head bytes ≤ 57) = digit-bounds (head bytes) d in
+  plain-operand bytes d = let b : (48 ≤ head bytes) × (head bytes ≤ 57) = digit-bounds (head bytes) d in
       rw (ne-eqb (head bytes) 45 (λ k. omega arith), ne-eqb (head bytes) 39 (λ k. omega arith), ne-eqb (head bytes) 76 (λ k. omega arith))
 
   operand-text : (x : Operand) → SoundOperand x → operand (operandText x ++ rest) ≡ got x (length (operandText x))
@@ -123,24 +118,21 @@ escaped {rest} {l} {c} e k h more =
 -- three digits of a byte
 three-digits : (c : ℕ) → c ≤ 255 → (rest : List ℕ) → escape ((48 + c / 100) ∷ (48 + c / 10 % 10) ∷ (48 + c % 10) ∷ rest) ≡ is c 4
 unfolding byNumber
-three-digits c h rest =
-    let a : c / 100 ≤ 2 = omega arith in
+three-digits c h rest = let a : c / 100 ≤ 2 = omega arith in
     no-letter (48 + c / 100) _ (omega arith) ∙
     a-byte (48 + c / 100) (48 + c / 10 % 10) (48 + c % 10) (digit (c / 100) (omega arith)) (digit (c / 10 % 10) (omega arith))
     (digit (c % 10) (omega arith)) (omega arith) h
 
 plain-text : (c : ℕ) (rest : List ℕ) → c ≤ 255 → (c ≡ 34 → ⊥) → (c ≡ 42 → ⊥) → Shows rest c (plainText c)
 unfolding plainText
-plain-text c rest h n34 n42 =
-    either (Shows rest c) (leb 32 c && leb c 126)
+plain-text c rest h n34 n42 = either (Shows rest c) (leb 32 c && leb c 126)
     (λ e. let b = both-true (leb 32 c) (leb c 126) e in record { shows = at-plain 34 c rest n34 n42 (leb-true 32 c (b .0)) (leb-true c 126 (b .1)) })
     (λ _. record { shows = at-asterisk 34 42 _ (λ e. omega arith) refl ∙ three-digits c h rest })
 
 -- every byte is read back
 character-text : (c : ℕ) (rest : List ℕ) → c ≤ 255 → Shows rest c (characterText c)
 unfolding characterText character escape
-character-text c rest h =
-    escaped 78 10 refl (λ _. escaped 84 9 refl (λ _. escaped 66 8 refl (λ _. escaped 80 12 refl (λ _. escaped 67 13 refl
+character-text c rest h = escaped 78 10 refl (λ _. escaped 84 9 refl (λ _. escaped 66 8 refl (λ _. escaped 80 12 refl (λ _. escaped 67 13 refl
     (λ _. escaped 42 42 refl (λ n42. escaped 34 34 refl (λ n34. plain-text c rest h n34 n42)))))))
 
 pub characters-text : (room : ℕ) (cs rest : List ℕ) → length cs ≤ room → Writable cs
@@ -180,53 +172,46 @@ a-letter (suc (suc (suc (suc (suc (suc (suc (suc f)))))))) h = absurd (omega ari
 
 pub rendered-item : (i : Item) (rest : List ℕ) → Sound i → item (render i ++ (10 ∷ rest)) ≡ got i (length (render i))
 unfolding render item labelItem instructionItem constantItem stringItem globalItem quotedString ended byte head
-rendered-item (label n) rest h =
-    rw (
-      append-assoc,
-      numeral-of n h .first (58 ∷ 10 ∷ rest),
-      decimal-text n (58 ∷ 10 ∷ rest) h refl,
-      drop-append-seam (numeralOf n) (58 ∷ 10 ∷ rest),
-      length-append (numeralOf n) (58 ∷ []),
-    )
-rendered-item (instruction f i b x) rest h =
-    rw (
-      a-letter f (h .eight) .reads ((indirectText i ++ (baseText b ++ operandText x)) ++ (10 ∷ rest)),
-      append-assoc (indirectText i) (baseText b ++ operandText x) (10 ∷ rest),
-      append-assoc (baseText b) (operandText x) (10 ∷ rest),
-      optional-text i (baseText b ++ (operandText x ++ (10 ∷ rest))) (base-begins b _ (begins 73 (λ k. omega arith) (λ k. omega arith) refl)),
-      drop-append-seam (indirectText i) (baseText b ++ (operandText x ++ (10 ∷ rest))),
-      base-text b (operandText x ++ (10 ∷ rest)) (begins 80 (λ k. omega arith) (λ k. omega arith) refl)
-          (begins 71 (λ k. omega arith) (λ k. omega arith) refl),
-      drop-append-seam (baseText b) (operandText x ++ (10 ∷ rest)),
-      operand-text (10 ∷ rest) refl x (h .sound),
-      drop-append-seam (operandText x) (10 ∷ rest),
-      length-append (indirectText i) (baseText b ++ operandText x),
-      length-append (baseText b) (operandText x),
-    )
-    (ap (got (instruction f i b x)) (omega arith))
+rendered-item (label n) rest h = rw (
+  append-assoc,
+  numeral-of n h .first (58 ∷ 10 ∷ rest),
+  decimal-text n (58 ∷ 10 ∷ rest) h refl,
+  drop-append-seam (numeralOf n) (58 ∷ 10 ∷ rest),
+  length-append (numeralOf n) (58 ∷ []),
+)
+rendered-item (instruction f i b x) rest h = rw (
+  a-letter f (h .eight) .reads ((indirectText i ++ (baseText b ++ operandText x)) ++ (10 ∷ rest)),
+  append-assoc (indirectText i) (baseText b ++ operandText x) (10 ∷ rest),
+  append-assoc (baseText b) (operandText x) (10 ∷ rest),
+  optional-text i (baseText b ++ (operandText x ++ (10 ∷ rest))) (base-begins b _ (begins 73 (λ k. omega arith) (λ k. omega arith) refl)),
+  drop-append-seam (indirectText i) (baseText b ++ (operandText x ++ (10 ∷ rest))),
+  base-text b (operandText x ++ (10 ∷ rest)) (begins 80 (λ k. omega arith) (λ k. omega arith) refl)
+      (begins 71 (λ k. omega arith) (λ k. omega arith) refl),
+  drop-append-seam (baseText b) (operandText x ++ (10 ∷ rest)),
+  operand-text (10 ∷ rest) refl x (h .sound),
+  drop-append-seam (operandText x) (10 ∷ rest),
+  length-append (indirectText i) (baseText b ++ operandText x),
+  length-append (baseText b) (operandText x),
+) (ap (got (instruction f i b x)) (omega arith))
   where
     begins : (c : ℕ) → (c ≡ 45 → ⊥) → (c ≡ 76 → ⊥) → isDigit c ≡ false → head (operandText x ++ (10 ∷ rest)) ≡ c → ⊥
     begins c m l d = operand-begins (10 ∷ rest) refl c m l d x (h .sound)
 rendered-item (constant x) rest h =
     rw (operand-text (10 ∷ rest) refl x h, drop-append-seam (operandText x) (10 ∷ rest)) (ap (got (constant x)) (omega arith))
-rendered-item (string cs) rest h =
-    rw (
-      append-assoc,
-      characters-text 255 cs (10 ∷ rest) (h .short) (h .each),
-      drop-append-add (charactersText cs) (34 ∷ 10 ∷ rest) 1,
-      length-append (charactersText cs) (34 ∷ []),
-    )
-    (ap (got (string cs)) (omega arith))
-rendered-item (global n m) rest h =
-    rw (
-      append-assoc,
-      decimal-text n (76 ∷ (numeralOf m ++ (10 ∷ rest))) (h .first) refl,
-      drop-append-seam (numeralOf n) (76 ∷ (numeralOf m ++ (10 ∷ rest))),
-      decimal-text m (10 ∷ rest) (h .second) refl,
-      drop-append-seam (numeralOf m) (10 ∷ rest),
-      length-append (numeralOf n) (76 ∷ numeralOf m),
-    )
-    (ap (got (global n m)) (omega arith))
+rendered-item (string cs) rest h = rw (
+  append-assoc,
+  characters-text 255 cs (10 ∷ rest) (h .short) (h .each),
+  drop-append-add (charactersText cs) (34 ∷ 10 ∷ rest) 1,
+  length-append (charactersText cs) (34 ∷ []),
+) (ap (got (string cs)) (omega arith))
+rendered-item (global n m) rest h = rw (
+  append-assoc,
+  decimal-text n (76 ∷ (numeralOf m ++ (10 ∷ rest))) (h .first) refl,
+  drop-append-seam (numeralOf n) (76 ∷ (numeralOf m ++ (10 ∷ rest))),
+  decimal-text m (10 ∷ rest) (h .second) refl,
+  drop-append-seam (numeralOf m) (10 ∷ rest),
+  length-append (numeralOf n) (76 ∷ numeralOf m),
+) (ap (got (global n m)) (omega arith))
 
 -- ---- a whole text
 
@@ -237,11 +222,10 @@ record Begins (bytes : List ℕ) : Type 0 where
 
 begins-with : (c : ℕ) (r : List ℕ) → 48 ≤ c → c ≤ 88 → Begins (c ∷ r)
 unfolding gaps head
-begins-with c r l h =
-    record {
-      no-gap = rw (ne-eqb c 32 (λ k. omega arith), ne-eqb c 10 (λ k. omega arith), ne-eqb c 47 (λ k. omega arith));
-      no-end = λ k. omega arith;
-    }
+begins-with c r l h = record {
+  no-gap = rw (ne-eqb c 32 (λ k. omega arith), ne-eqb c 10 (λ k. omega arith), ne-eqb c 47 (λ k. omega arith));
+  no-end = λ k. omega arith;
+}
 
 digit-begins : (bytes : List ℕ) → isDigit (head bytes) ≡ true → Begins bytes
 unfolding head
@@ -251,8 +235,7 @@ digit-begins (c ∷ r) e = let b : (48 ≤ c) × (c ≤ 57) = digit-bounds c e i
 item-begins : (i : Item) (rest : List ℕ) → Sound i → Begins (render i ++ rest)
 unfolding render
 item-begins (label n) rest h = rw append-assoc (digit-begins _ (numeral-of n h .first (58 ∷ rest)))
-item-begins (instruction f i b x) rest h =
-    let a : Letter f = a-letter f (h .eight) in
+item-begins (instruction f i b x) rest h = let a : Letter f = a-letter f (h .eight) in
     begins-with (letter f) _ (omega (arith, leb-true 65 (letter f) (a .low))) (leb-true (letter f) 88 (a .high))
 item-begins (constant x) rest h = begins-with 68 _ (omega arith) (omega arith)
 item-begins (string cs) rest h = begins-with 67 _ (omega arith) (omega arith)
@@ -284,8 +267,7 @@ body-lines : (text : List ℕ) (items : List Item) (p : ℕ) → drop p text ≡
     → body 0 p (drop p text) ≡ record { items = places (p + 1) items; ending = whole }
 unfolding renderLines places
 body-lines text [] p e h = rw e (last-line p)
-body-lines text (i ∷ items) p e h =
-    rw e (newline-passed line p (item-begins i rest (h .0) .no-gap)) ∙
+body-lines text (i ∷ items) p e h = rw e (newline-passed line p (item-begins i rest (h .0) .no-gap)) ∙
     body-element text line (p + 1) (sym here) (item-begins i rest (h .0) .no-gap) ∙
     ap (onNext text) element ∙
     ap (goesOn (p + 1) i) (body-lines text items (p + 1 + length (render i)) there (h .1))
@@ -313,8 +295,7 @@ rendered items h = body-lines (36 ∷ 10 ∷ renderLines items) items 1 refl h
 
 -- a text of each kind of item, with the corners of numbers and characters: what is rendered, and that it is read back
 sample : List Item
-sample =
-    label 1 ∷
+sample = label 1 ∷
     instruction 0 true P (number false 65535) ∷
     instruction 3 false none (address 10) ∷
     constant (number true 32768) ∷
@@ -335,8 +316,7 @@ sample-text = refl
 
 sample-sound : AllSound sample
 unfolding sample
-sample-sound =
-    omega arith &
+sample-sound = omega arith &
     record { eight = omega arith; sound = omega arith } &
     record { eight = omega arith; sound = omega arith } &
     omega arith &

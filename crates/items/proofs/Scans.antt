@@ -32,8 +32,7 @@ pub gaps-passed : (comment : Bool) (bytes : List ℕ) → gaps false (drop (gaps
 unfolding gaps
 gaps-passed comment [] = refl
 gaps-passed true (c ∷ r) = gaps-passed (not (eqb c 10)) r
-gaps-passed false (c ∷ r) =
-    by-cases (inGap false c)
+gaps-passed false (c ∷ r) = by-cases (inGap false c)
     (λ t. let e : gaps false (c ∷ r) ≡ suc (gaps (inComment false c) r) = rw t at (gap-byte false c r) in rw e (gaps-passed (inComment false c) r))
     (λ t. let e : gaps false (c ∷ r) ≡ 0 = rw t at (gap-byte false c r) in rw e e)
 
@@ -41,8 +40,7 @@ pub body-over : (k place : ℕ) (bytes : List ℕ) → k ≤ length bytes → bo
 unfolding body
 body-over zero place bytes h = rw (add-zero place)
 body-over (suc k) place [] h = absurd (omega arith)
-body-over (suc k) place (c ∷ r) h =
-    rw (add-shift place k) (body-over k (suc place) r (omega arith))
+body-over (suc k) place (c ∷ r) h = rw (add-shift place k) (body-over k (suc place) r (omega arith))
 
 -- ---- one element at a time
 
@@ -59,8 +57,7 @@ body-element text (c ∷ r) at e h = rw h (by (eqb c 90))
     read : (g : Got Item) → item (c ∷ r) ≡ g → onItem at g (λ k. body k (suc at) r) ≡ onNext text (oneOf at g)
     read nothing k = refl
     read (got i zero) k = absurd (let g : Given (suc (length r)) 1 (Stands (c ∷ r)) i zero = item-given (c ∷ r) k in omega arith)
-    read (got i (suc m)) k =
-        let g : Given (suc (length r)) 1 (Stands (c ∷ r)) i (suc m) = item-given (c ∷ r) k in
+    read (got i (suc m)) k = let g : Given (suc (length r)) 1 (Stands (c ∷ r)) i (suc m) = item-given (c ∷ r) k in
         let n : suc m - 1 ≡ m = omega arith in
         let p : suc at + m ≡ at + suc m = omega arith in
         let q : drop m r ≡ drop (at + suc m) text = ap (drop (suc m)) e ∙ drop-drop (suc m) at text in
@@ -79,8 +76,7 @@ body-gap (c ∷ r) at = by (gaps false (c ∷ r)) refl (gaps-within false (c ∷
   where
     by : (g : ℕ) → gaps false (c ∷ r) ≡ g → g ≤ suc (length r) → body 0 at (c ∷ r) ≡ body 0 (at + g) (drop g (c ∷ r))
     by zero e h = rw (add-zero at)
-    by (suc k) e h =
-        rw (e, add-shift at k) (body-over k (suc at) r (omega arith))
+    by (suc k) e h = rw (e, add-shift at k) (body-over k (suc at) r (omega arith))
 
 pub body-next : (text : List ℕ) (at : ℕ) → body 0 at (drop at text) ≡ onNext text (nextIn text at)
 unfolding nextIn

@@ -118,8 +118,7 @@ ended-meets bytes = one (eqb (head bytes) 32) (one (eqb (head bytes) 10) (one (e
 base-meets : (bytes : List ℕ) → Meets (length bytes) 0 Any (base bytes)
 unfolding base head
 base-meets [] = gives tt (omega arith) (omega arith)
-base-meets (c ∷ r) =
-    either (eqb c 80) (λ _. gives tt (omega arith) (omega arith))
+base-meets (c ∷ r) = either (eqb c 80) (λ _. gives tt (omega arith) (omega arith))
     (either (eqb c 71) (λ _. gives tt (omega arith) (omega arith)) (gives tt (omega arith) (omega arith)))
 
 digits-small : (v : ℕ) (bytes : List ℕ) → v ≤ 65536 → digits v bytes ≤ 65536
@@ -145,37 +144,28 @@ character-meets bytes = by (quoted 39 1 0 bytes) refl
   where
     by : (q : Quoted) → quoted 39 1 0 bytes ≡ q → Meets (length bytes) 1 SoundOperand (asCharacter q)
     by (closed [] w) e = fails
-    by (closed (c ∷ cs) w) e =
-        let k : Closed 1 0 (length bytes) (c ∷ cs) w = is-closed 39 1 0 bytes e in
+    by (closed (c ∷ cs) w) e = let k : Closed 1 0 (length bytes) (c ∷ cs) w = is-closed 39 1 0 bytes e in
         gives (omega (arith, each-byte (c ∷ cs) (k .each) 0)) (omega arith) (omega arith)
     by unclosed e = fails
     by (faulty k n) e = fails
 
 negative-meets : (bytes : List ℕ) → Meets (length bytes) 2 SoundOperand (negative bytes)
 unfolding negative
-negative-meets bytes =
-    then bytes (byte 45 bytes) (byte-meets 45 (omega arith) bytes)
-    (λ _ n _. then (drop n bytes) (decimal (drop n bytes)) (decimal-meets (drop n bytes))
-    (λ v m h. returns (number true v) h))
+negative-meets bytes = then bytes (byte 45 bytes) (byte-meets 45 (omega arith) bytes)
+    (λ _ n _. then (drop n bytes) (decimal (drop n bytes)) (decimal-meets (drop n bytes)) (λ v m h. returns (number true v) h))
 
 labelled-meets : (bytes : List ℕ) → Meets (length bytes) 2 SoundOperand (labelled bytes)
 unfolding labelled
-labelled-meets bytes =
-    then bytes (byte 76 bytes) (byte-meets 76 (omega arith) bytes)
-    (λ _ n _. then (drop n bytes) (decimal (drop n bytes)) (decimal-meets (drop n bytes))
-    (λ v m h. returns (address v) h))
+labelled-meets bytes = then bytes (byte 76 bytes) (byte-meets 76 (omega arith) bytes)
+    (λ _ n _. then (drop n bytes) (decimal (drop n bytes)) (decimal-meets (drop n bytes)) (λ v m h. returns (address v) h))
 
 positive-meets : (bytes : List ℕ) → Meets (length bytes) 1 SoundOperand (positive bytes)
 unfolding positive
-positive-meets bytes =
-    then bytes (decimal bytes) (decimal-meets bytes)
-    (λ v m h. returns (number false v) h)
+positive-meets bytes = then bytes (decimal bytes) (decimal-meets bytes) (λ v m h. returns (number false v) h)
 
 quotation-meets : (bytes : List ℕ) → Meets (length bytes) 2 SoundOperand (quotation bytes)
 unfolding quotation
-quotation-meets bytes =
-    then bytes (byte 39 bytes) (byte-meets 39 (omega arith) bytes)
-    (λ _ n _. character-meets (drop n bytes))
+quotation-meets bytes = then bytes (byte 39 bytes) (byte-meets 39 (omega arith) bytes) (λ _ n _. character-meets (drop n bytes))
 
 -- of fewer bytes at least
 fewer : {A : Type 0} {m l : ℕ} {P : A → Type 0} (g : Got A) → Meets m (suc l) P g → Meets m 1 P g
@@ -184,25 +174,21 @@ fewer nothing h = fails
 
 operand-meets : (bytes : List ℕ) → Meets (length bytes) 1 SoundOperand (operand bytes)
 unfolding operand
-operand-meets bytes =
-    either (eqb (head bytes) 45) (λ _. fewer (negative bytes) (negative-meets bytes))
+operand-meets bytes = either (eqb (head bytes) 45) (λ _. fewer (negative bytes) (negative-meets bytes))
     (either (eqb (head bytes) 39) (λ _. fewer (quotation bytes) (quotation-meets bytes))
-    (either (eqb (head bytes) 76) (λ _. fewer (labelled bytes) (labelled-meets bytes))
-    (positive-meets bytes)))
+    (either (eqb (head bytes) 76) (λ _. fewer (labelled bytes) (labelled-meets bytes)) (positive-meets bytes)))
 
 -- ---- items
 
 label-meets : (all bytes : List ℕ) → Meets (length bytes) 2 (Stands all) (labelItem bytes)
 unfolding labelItem
-label-meets all bytes =
-    then bytes (decimal bytes) (decimal-meets bytes)
+label-meets all bytes = then bytes (decimal bytes) (decimal-meets bytes)
     (λ v n h. then (drop n bytes) (byte 58 (drop n bytes)) (byte-meets 58 (omega arith) (drop n bytes))
     (λ _ _ _. returns (label v) (record { sound = h; quotes = tt })))
 
 instruction-meets : (all bytes : List ℕ) (f : ℕ) → f < 8 → Meets (length bytes) 1 (Stands all) (instructionItem f bytes)
 unfolding instructionItem
-instruction-meets all bytes f small =
-    then bytes (optional 73 bytes) (optional-meets 73 (omega arith) bytes)
+instruction-meets all bytes f small = then bytes (optional 73 bytes) (optional-meets 73 (omega arith) bytes)
     (λ i n _. then (drop n bytes) (base (drop n bytes)) (base-meets (drop n bytes))
     (λ b m _. then (drop m (drop n bytes)) (operand (drop m (drop n bytes))) (operand-meets (drop m (drop n bytes)))
     (λ x k h. then (drop k (drop m (drop n bytes))) (ended (drop k (drop m (drop n bytes)))) (ended-meets (drop k (drop m (drop n bytes))))
@@ -210,15 +196,13 @@ instruction-meets all bytes f small =
 
 constant-meets : (all bytes : List ℕ) → Meets (length bytes) 1 (Stands all) (constantItem bytes)
 unfolding constantItem
-constant-meets all bytes =
-    then bytes (operand bytes) (operand-meets bytes)
+constant-meets all bytes = then bytes (operand bytes) (operand-meets bytes)
     (λ x n h. then (drop n bytes) (ended (drop n bytes)) (ended-meets (drop n bytes))
     (λ _ _ _. returns (constant x) (record { sound = h; quotes = tt })))
 
 global-meets : (all bytes : List ℕ) → Meets (length bytes) 3 (Stands all) (globalItem bytes)
 unfolding globalItem
-global-meets all bytes =
-    then bytes (decimal bytes) (decimal-meets bytes)
+global-meets all bytes = then bytes (decimal bytes) (decimal-meets bytes)
     (λ v n h. then (drop n bytes) (byte 76 (drop n bytes)) (byte-meets 76 (omega arith) (drop n bytes))
     (λ _ m _. then (drop m (drop n bytes)) (decimal (drop m (drop n bytes))) (decimal-meets (drop m (drop n bytes)))
     (λ w k j. then (drop k (drop m (drop n bytes))) (ended (drop k (drop m (drop n bytes)))) (ended-meets (drop k (drop m (drop n bytes))))
@@ -237,8 +221,7 @@ characters-meet c d bytes = by (quoted 34 255 0 bytes) refl
     by : (q : Quoted) → quoted 34 255 0 bytes ≡ q → Meets (length bytes) 1 (Stands (c ∷ d ∷ bytes)) (asString q)
     by unclosed e = fails
     by (faulty k n) e = fails
-    by (closed cs w) e =
-        let k : Closed 255 0 (length bytes) cs w = is-closed 34 255 0 bytes e in
+    by (closed cs w) e = let k : Closed 255 0 (length bytes) cs w = is-closed 34 255 0 bytes e in
         gives (record { sound = record { short = k .short; each = k .each }; quotes = record { width = w; reading = e } }) (omega arith) (omega arith)
 
 string-meets : (c : ℕ) (bytes : List ℕ) → Meets (length bytes) 2 (Stands (c ∷ bytes)) (stringItem bytes)
@@ -250,9 +233,7 @@ string-meets c (d ∷ r) = by (eqb d 34)
     rest = onGot (quotedString r) (λ s n. wide n (onGot (ended (drop n r)) (λ _ m. wide m (got s 0))))
 
     rest-meets : Meets (length r) 1 (Stands (c ∷ d ∷ r)) rest
-    rest-meets =
-        then r (quotedString r) (characters-meet c d r)
-        (λ s n h. then (drop n r) (ended (drop n r)) (ended-meets (drop n r))
+    rest-meets = then r (quotedString r) (characters-meet c d r) (λ s n h. then (drop n r) (ended (drop n r)) (ended-meets (drop n r))
         (λ _ _ _. returns s h))
 
     by : (t : Bool)
@@ -264,12 +245,10 @@ string-meets c (d ∷ r) = by (eqb d 34)
 item-meets : (bytes : List ℕ) → Meets (length bytes) 1 (Stands bytes) (item bytes)
 unfolding item head functionOf
 item-meets [] = fails
-item-meets (c ∷ r) =
-    either (isDigit c) (λ _. fewer (labelItem (c ∷ r)) (label-meets (c ∷ r) (c ∷ r)))
+item-meets (c ∷ r) = either (isDigit c) (λ _. fewer (labelItem (c ∷ r)) (label-meets (c ∷ r) (c ∷ r)))
     (either (eqb c 68) (λ _. fewer (wide 1 (constantItem r)) (after (constantItem r) (constant-meets (c ∷ r) r)))
     (either (eqb c 67) (λ _. fewer (wide 1 (stringItem r)) (after (stringItem r) (string-meets c r)))
-    (either (eqb c 71) (λ _. fewer (wide 1 (globalItem r)) (after (globalItem r) (global-meets (c ∷ r) r)))
-    (either (ltb (functionOf c) 8)
+    (either (eqb c 71) (λ _. fewer (wide 1 (globalItem r)) (after (globalItem r) (global-meets (c ∷ r) r))) (either (ltb (functionOf c) 8)
     (λ e. fewer (wide 1 (instructionItem (functionOf c) r)) (after (instructionItem (functionOf c) r)
     (instruction-meets (c ∷ r) r (functionOf c) (ltb-true (functionOf c) 8 e))))
     fails))))
@@ -297,8 +276,7 @@ element-given text {place} {p} {q} {i} at from e = by (eqb (head (drop place tex
 
     found : (g : Got Item) → item (drop place text) ≡ g → oneOf place g ≡ one p i q → NextGiven text at p i q
     found nothing d k = contradiction cc
-    found (got j n) d k =
-        let h : Given (length (drop place text)) 1 (Stands (drop place text)) j n = item-given (drop place text) d in
+    found (got j n) d k = let h : Given (length (drop place text)) 1 (Stands (drop place text)) j n = item-given (drop place text) d in
         let m : place + n - place ≡ n = omega arith in
         let l : length (drop place text) ≡ length text - place = length-drop place text in
         let a : p ≡ place = cc in
@@ -317,6 +295,5 @@ next-given text at e = element-given text at (omega arith) e
 
 -- a string's characters, from past its first quote on
 pub next-string : (text : List ℕ) (at : ℕ) {p q : ℕ} {cs : List ℕ} → nextIn text at ≡ one p (string cs) q → Between (drop (p + 2) text) cs
-next-string text at {p = p} {cs = cs} e =
-    let h : Between (drop 2 (drop p text)) cs = next-given text at e .stands .quotes in
+next-string text at {p = p} {cs = cs} e = let h : Between (drop 2 (drop p text)) cs = next-given text at e .stands .quotes in
     record { width = h .width; reading = rw (← drop-drop 2 p text) (h .reading) }

@@ -86,8 +86,7 @@ facts source scratch h = go (ltb 16384 (length source)) refl (ltb scratch (8 * l
   where
     onto : (x : S.Read) → parsed source ≡ x → length source ≤ 16384 → onRead source x ≡ accepted → Facts source
     onto (S.refused number place) e l m = contradiction cc
-    onto (S.read p) e l m =
-        let r : IsRead source p = parsed-read source p e in
+    onto (S.read p) e l m = let r : IsRead source p = parsed-read source p e in
         let f = read-fine source p r 1 (omega arith) (omega arith) (omega (arith, cost-length (scan source .symbols), scan-length source)) in
         let g = read-fine source p r 3 (omega arith) (omega arith) (omega (arith, covered source)) in
         let a = or-else (faultsOfProgram source p) _ m in

@@ -26,8 +26,7 @@ same-alike (s ∷ ss) (b ∷ bs) e = go (eqb s b) (eqb (length (s ∷ ss)) (leng
 -- by whether the first word is that of the bytes
 pub kind-cons : (w : Spelled) (ws : List Spelled) (bs : List ℕ) → kindIn (w ∷ ws) bs ≡ cond (same (w .spelling) bs) (w .kind) (kindIn ws bs)
 unfolding kindIn
-kind-cons w ws bs =
-    elim (same (w .spelling) bs) as (λ t. elim t [ true ↦ w .kind | false ↦ kindIn ws bs ] ≡ cond t (w .kind) (kindIn ws bs))
+kind-cons w ws bs = elim (same (w .spelling) bs) as (λ t. elim t [ true ↦ w .kind | false ↦ kindIn ws bs ] ≡ cond t (w .kind) (kindIn ws bs))
     [ true ↦ refl | false ↦ refl ]
 
 kind-in-candidates : (ws : List Spelled) (bs : List ℕ) → kindIn ws bs ≡ kindIn (candidatesIn ws bs) bs
@@ -49,15 +48,13 @@ kind-by-candidates bs = kind-in-candidates reserved bs
 compared-within : (ws : List Spelled) (bs : List ℕ) → comparedIn ws bs ≤ length ws
 unfolding comparedIn
 compared-within [] bs = omega arith
-compared-within (w ∷ ws) bs =
-    by-cond (λ n. suc n ≤ suc (length ws)) (same (w .spelling) bs) (omega arith) (omega (arith, compared-within ws bs))
+compared-within (w ∷ ws) bs = by-cond (λ n. suc n ≤ suc (length ws)) (same (w .spelling) bs) (omega arith) (omega (arith, compared-within ws bs))
 
 -- bytes alike have the same candidates
 alike-candidates : (ws : List Spelled) (ss bs : List ℕ) → alike ss bs ≡ true → candidatesIn ws ss ≡ candidatesIn ws bs
 unfolding candidatesIn
 alike-candidates [] ss bs e = refl
-alike-candidates (w ∷ ws) ss bs e =
-    let first : getD ss 0 0 ≡ getD bs 0 0 = eqb-true _ _ (both-left _ _ e) in
+alike-candidates (w ∷ ws) ss bs e = let first : getD ss 0 0 ≡ getD bs 0 0 = eqb-true _ _ (both-left _ _ e) in
     let long : length ss ≡ length bs = eqb-true _ _ (both-right (eqb (getD ss 0 0) (getD bs 0 0)) _ e) in
     rw (first, long, alike-candidates ws ss bs e)
 
@@ -73,8 +70,7 @@ Few bs = length (candidates bs) ≤ 3
 few-candidates : (ws : List Spelled) (bs : List ℕ) → few ws ≡ true → (length (candidatesIn ws bs) ≤ 3 → Few bs) → Few bs
 unfolding candidatesIn candidates
 few-candidates [] bs t k = k (omega arith)
-few-candidates (w ∷ ws) bs t k =
-    let b = both-true (leb (length (candidates (w .spelling))) 3) (few ws) t in
+few-candidates (w ∷ ws) bs t k = let b = both-true (leb (length (candidates (w .spelling))) 3) (few ws) t in
     by-cases (alike (w .spelling) bs)
     (λ e. let h : Few (w .spelling) = leb-true _ _ (b .0) in rw (← alike-candidates reserved (w .spelling) bs e) h)
     (λ e. few-candidates ws bs (b .1) (rw e at k))

@@ -42,21 +42,16 @@ module _ (s : Source) where
   chain : (b n : ℕ) (left right : Reader Expression) → ((at : ℕ) → Low depth n (left s at)) → ((at : ℕ) → Low depth n (right s at)) → (at : ℕ)
       → Low depth (suc n) (E.chain b left right s at)
   unfolding E.chain E.operations E.operation depth
-  chain b n left right f g at =
-      bind (f at) λ e n₁ p.
+  chain b n left right f g at = bind (f at) λ e n₁ p.
       bind (many-up-to s (Deep operationsDepth n) T.noOperations (λ _. omega arith) (E.operation right) _
       (λ m _. on (any s m) λ x n₂. bind (g n₂) λ e′ n₃ p′. give λ os _ q. omega arith) (E.mostOf b s) n₁) λ os n₄ q. give (with-operations n e os p q)
 
   module _ {d : ℕ} {inner : Inside} (l : InsideOf (LowReaders d) inner) where
     primary : (at : ℕ) → Low depth (suc d) (E.primary inner s at)
     unfolding E.primary E.numeral E.quotation E.truth E.named E.bracketed E.valof depth unexpected
-    primary at =
-        both (is K.NUMBER s at) (on (any s at) λ _ _. give (omega arith))
-        (both (is K.STRING s at) (on (any s at) λ _ _. give (omega arith))
-        (both (is K.TRUE s at) (on (any s at) λ _ _. give (omega arith))
-        (both (is K.FALSE s at) (on (any s at) λ _ _. give (omega arith))
-        (both (is K.NAME s at) (on (aName s at) λ _ _. give (omega arith))
-        (both (is K.OPEN s at) (opened _ l λ r b. on (the K.OPEN s at) λ _ n₁.
+    primary at = both (is K.NUMBER s at) (on (any s at) λ _ _. give (omega arith)) (both (is K.STRING s at) (on (any s at) λ _ _. give (omega arith))
+        (both (is K.TRUE s at) (on (any s at) λ _ _. give (omega arith)) (both (is K.FALSE s at) (on (any s at) λ _ _. give (omega arith))
+        (both (is K.NAME s at) (on (aName s at) λ _ _. give (omega arith)) (both (is K.OPEN s at) (opened _ l λ r b. on (the K.OPEN s at) λ _ n₁.
         bind (b .expressions LOOSEST n₁) λ e n₂ p. on (the K.CLOSE s n₂) λ _ _. give (omega arith))
         (both (is K.VALOF s at) (opened _ l λ r b. on (the K.VALOF s at) λ _ n₁. bind (b .commands n₁) λ c _ p. give (omega arith)) refusal))))))
 
@@ -66,8 +61,7 @@ module _ (s : Source) where
 
     suffix : (at : ℕ) → LowPut suffixesDepth (suc d) (E.suffix inner s at)
     unfolding E.suffix E.arguments E.index E.subscript depth
-    suffix at =
-        both (is K.OPEN s at)
+    suffix at = both (is K.OPEN s at)
         (opened _ l λ r b. on (the K.OPEN s at) λ _ n₁. bind (close-of s (Deep expressionsDepth d) T.noExpressions (λ _. omega arith) _ (λ _ _ _ i. i)
         (λ n. bind (b .expressions LOOSEST n) λ e _ p. give λ es _ q. omega arith) (Deep expressionsDepth d) (λ _ _ _ _ i. i) n₁) λ es _ p.
         give λ ss _ q. omega arith)
@@ -75,15 +69,13 @@ module _ (s : Source) where
 
     operand : (at : ℕ) → Low depth (2 + d) (E.operand inner s at)
     unfolding E.operand E.suffixed depth
-    operand at =
-        both (isMonadic (kindAt s at)) (related (monadic at) (λ _ _ p. omega arith))
+    operand at = both (isMonadic (kindAt s at)) (related (monadic at) (λ _ _ p. omega arith))
         (bind (primary at) λ e n₁ p. bind (many-of s (Deep suffixesDepth (suc d)) T.noSuffixes (λ _. omega arith) (E.suffix inner) isSuffix
         (λ n _. suffix n) n₁)
         λ ss _ q. give (with-suffixes d e ss p q))
 
     pub expression : (binding at : ℕ) → Low depth (8 + d) (E.expression inner binding s at)
     unfolding E.negations
-    expression =
-        by-binding (λ n r. (at : ℕ) → Low depth (2 + n + d) (r s at)) (λ _. Unit) (λ m n r h g at. related (g at) (λ _ _ p. omega arith))
+    expression = by-binding (λ n r. (at : ℕ) → Low depth (2 + n + d) (r s at)) (λ _. Unit) (λ m n r h g at. related (g at) (λ _ _ p. omega arith))
         (λ b n _ left right f g at. related (chain b (2 + n + d) left right f g at) (λ _ _ p. omega arith)) inner operand
         (λ shifts at. both (is K.NOT s at) (related (monadic at) (λ _ _ p. omega arith)) (shifts at)) tt tt tt tt tt tt

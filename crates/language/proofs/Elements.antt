@@ -62,23 +62,19 @@ record Spelling (kind : ℕ) (bs : List ℕ) : Type 0 where
 spelling-in : (ws : List Spelled) (bs : List ℕ) → allOf long ws ≡ true → Spelling (kindIn ws bs) bs
 unfolding kindIn allOf isRepeat member
 spelling-in [] bs h = record { long = λ e. contradiction cc; string = λ e. omega arith; number = λ e. omega arith }
-spelling-in (w ∷ ws) bs h =
-    let p = both-true (long w) (allOf long ws) h in
+spelling-in (w ∷ ws) bs h = let p = both-true (long w) (allOf long ws) h in
     go (same (w .spelling) bs) refl (both-true _ (not (eqb (w .kind) NUMBER)) (p .0)) (spelling-in ws bs (p .1))
   where
     go : (b : Bool) → same (w .spelling) bs ≡ b
         → (cond (isRepeat (w .kind)) (leb 3 (length (w .spelling))) true && not (eqb (w .kind) STRING) ≡ true) × (not (eqb (w .kind) NUMBER) ≡ true)
         → Spelling (kindIn ws bs) bs → Spelling (elim b [ true ↦ w .kind | false ↦ kindIn ws bs ]) bs
-    go true e q k =
-        let o = both-true (cond (isRepeat (w .kind)) (leb 3 (length (w .spelling))) true) (not (eqb (w .kind) STRING)) (q .0) in
-        record {
-          long = λ r.
-              let m : length (w .spelling) ≡ length bs
-              = eqb-true _ _ (both-true (eqb (length (w .spelling)) (length bs)) (begins (w .spelling) bs) e .0) in
-              omega (arith, leb-true 3 (length (w .spelling)) (rw r at (o .0)));
-          string = eqb-false (w .kind) STRING (not-true (eqb (w .kind) STRING) (o .1));
-          number = eqb-false (w .kind) NUMBER (not-true (eqb (w .kind) NUMBER) (q .1));
-        }
+    go true e q k = let o = both-true (cond (isRepeat (w .kind)) (leb 3 (length (w .spelling))) true) (not (eqb (w .kind) STRING)) (q .0) in record {
+      long = λ r. let m : length (w .spelling) ≡ length bs
+          = eqb-true _ _ (both-true (eqb (length (w .spelling)) (length bs)) (begins (w .spelling) bs) e .0) in
+          omega (arith, leb-true 3 (length (w .spelling)) (rw r at (o .0)));
+      string = eqb-false (w .kind) STRING (not-true (eqb (w .kind) STRING) (o .1));
+      number = eqb-false (w .kind) NUMBER (not-true (eqb (w .kind) NUMBER) (q .1));
+    }
     go false e q k = k
 
 word-within : (bs : List ℕ) → wordWidth bs ≤ length bs
@@ -96,8 +92,7 @@ module _ (bs : List ℕ) where
   known-word = go (kindIn reserved (take (wordWidth bs) bs)) (spelling-in reserved (take (wordWidth bs) bs) refl)
     where
       go : (kind : ℕ) → Spelling kind (take (wordWidth bs) bs) → KnownElement bs (symbol kind (wordWidth bs) (wordWidth bs))
-      go kind k =
-          is-symbol (record
+      go kind k = is-symbol (record
           { number = λ e. absurd (k .number e); name = λ _. word-within bs; wide = by (isRepeat kind) refl; closes = λ e. absurd (k .string e) })
         where
           by : (b : Bool) → isRepeat kind ≡ b → needs kind (inside bs) ≤ suc (min (wordWidth bs - 1) (length bs - 1))
@@ -114,8 +109,7 @@ module _ (bs : List ℕ) where
 
   known-octal : (cs : List ℕ) → KnownElement bs (octal cs)
   unfolding octal
-  known-octal cs =
-      either (leb 1 (digits 8 cs) && leb (valueOf 8 0 cs) 65535)
+  known-octal cs = either (leb 1 (digits 8 cs) && leb (valueOf 8 0 cs) 65535)
       (λ h. is-number (omega (arith, leb-true (valueOf 8 0 cs) 65535 (both-true (leb 1 (digits 8 cs)) (leb (valueOf 8 0 cs) 65535) h .1)))) a-fault
 
   known-character : (cs : List ℕ) → KnownElement bs (character cs)
@@ -134,44 +128,35 @@ module _ (bs : List ℕ) where
   known-string = go (quoted 34 255 0 (drop 1 bs)) refl
     where
       go : (q : Quoted) → quoted 34 255 0 (drop 1 bs) ≡ q → KnownElement bs (asString q)
-      go (closed cs n) e =
-          let k : Closed 255 0 (length (drop 1 bs)) cs n = is-closed 34 255 0 (drop 1 bs) e in
-          is-symbol (record {
-            number = λ z. absurd (omega arith);
-            name = λ z. absurd (omega arith);
-            wide = rw e (omega (arith, k .enough, k .within, length-drop 1 bs));
-            closes = λ _. record { characters = cs; width = n; closes = e };
-          })
+      go (closed cs n) e = let k : Closed 255 0 (length (drop 1 bs)) cs n = is-closed 34 255 0 (drop 1 bs) e in is-symbol (record {
+        number = λ z. absurd (omega arith);
+        name = λ z. absurd (omega arith);
+        wide = rw e (omega (arith, k .enough, k .within, length-drop 1 bs));
+        closes = λ _. record { characters = cs; width = n; closes = e };
+      })
       go unclosed e = a-fault
       go (faulty number n) e = a-fault
 
   sign-in : (ws : List Spelled) (cs : List ℕ) → allOf plain ws ≡ true → KnownElement bs (signIn ws cs)
   unfolding signIn allOf
   sign-in [] cs h = a-fault
-  sign-in (w ∷ ws) cs h =
-      let p = both-true (plain w) (allOf plain ws) h in
+  sign-in (w ∷ ws) cs h = let p = both-true (plain w) (allOf plain ws) h in
       go (begins (w .spelling) cs) (both-true (not (isRepeat (w .kind))) (not (eqb (w .kind) STRING)) (p .0)) (sign-in ws cs (p .1))
     where
       go : (b : Bool) → (not (isRepeat (w .kind)) ≡ true) × (not (eqb (w .kind) STRING) ≡ true) → KnownElement bs (signIn ws cs)
           → KnownElement bs (elim b [ true ↦ symbol (w .kind) 0 (length (w .spelling)) | false ↦ signIn ws cs ])
-      go true q f =
-          let z = not-true (eqb (w .kind) STRING) (q .1) in
-          is-symbol (record {
-            number = λ _. omega arith;
-            name = λ _. omega arith;
-            wide = rw (not-true (isRepeat (w .kind)) (q .0), z) (omega arith);
-            closes = λ e. absurd (eqb-false (w .kind) STRING z e);
-          })
+      go true q f = let z = not-true (eqb (w .kind) STRING) (q .1) in is-symbol (record {
+        number = λ _. omega arith;
+        name = λ _. omega arith;
+        wide = rw (not-true (isRepeat (w .kind)) (q .0), z) (omega arith);
+        closes = λ e. absurd (eqb-false (w .kind) STRING z e);
+      })
       go false q f = f
 
   pub known-element : (class : ℕ) → KnownElement bs (byClass class bs)
   unfolding byClass signOrComment comment sign allOf signs isRepeat member
-  known-element class =
-      either (eqb class LETTER) (λ _. known-word)
-      (either (eqb class DIGIT) (λ _. known-decimal)
-      (either (eqb class HASH) (λ _. known-octal (drop 1 bs))
-      (either (eqb class QUOTE) (λ _. known-character (drop 1 bs))
+  known-element class = either (eqb class LETTER) (λ _. known-word) (either (eqb class DIGIT) (λ _. known-decimal)
+      (either (eqb class HASH) (λ _. known-octal (drop 1 bs)) (either (eqb class QUOTE) (λ _. known-character (drop 1 bs))
       (either (eqb class DOUBLE) (λ _. known-string)
       (either (eqb class SIGN) (λ _. either (begins (47 ∷ 47 ∷ []) bs) (λ _. a-gap) (sign-in signs bs refl))
-      (either (eqb class SEPARATOR) (λ _. a-gap)
-      (either (eqb class NEWLINE) (λ _. a-gap) a-fault)))))))
+      (either (eqb class SEPARATOR) (λ _. a-gap) (either (eqb class NEWLINE) (λ _. a-gap) a-fault)))))))

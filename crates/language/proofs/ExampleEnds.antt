@@ -60,13 +60,11 @@ only-end s e = rw (one-end e (computed .ends)) (computed .stored)
 
 -- it ends alike in a memory of the 20,006 words that it uses
 within : SourceRunEnds text place 20006 [] end
-within =
-    record {
-      fuel = computed .ends .fuel;
-      over =
-          over-within 20006 (functionsIn text) place 32768 (omega arith) [] (computed .ends .fuel) (stringsIn text) (computed .ends .over)
-          (omega (arith, computed .used));
-    }
+within = record {
+  fuel = computed .ends .fuel;
+  over = over-within 20006 (functionsIn text) place 32768 (omega arith) [] (computed .ends .fuel) (stringsIn text) (computed .ends .over)
+      (omega (arith, computed .used));
+}
 
 -- all globals hold values, and both words of the string
 globals-held : (n : ℕ) → n < 400 → Held (end .cells (16 + n))
@@ -75,6 +73,5 @@ globals-held n l =
 
 string-held : (i : ℕ) → i < 2 → Held (end .cells (2000 + i))
 unfolding pairs
-string-held i l =
-    ended-strings (functionsIn text) (stringsIn text) place 32768 [] (computed .ends .fuel) end (computed .ends .over) 0 i
+string-held i l = ended-strings (functionsIn text) (stringsIn text) place 32768 [] (computed .ends .fuel) end (computed .ends .over) 0 i
     (rw (computed .strings) (omega arith)) (rw (computed .strings) refl) (rw (computed .strings) (omega arith)) (omega arith) (omega arith)

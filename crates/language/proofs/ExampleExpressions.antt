@@ -60,8 +60,7 @@ unfolding grouped grouped-table
 grouped-examples = refl
 
 unfoldable verdict-table : Table String (ℕ × ℕ)
-verdict-table =
-    "LET F()=A>>5=14" gives (6, 12) ∷
+verdict-table = "LET F()=A>>5=14" gives (6, 12) ∷
     "LET F()=A=B=C" gives (6, 11) ∷
     -- VALOF is a primary
     "LET F()=1+VALOF RESULTIS 2" gives (0, 0) ∷

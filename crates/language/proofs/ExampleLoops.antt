@@ -45,13 +45,11 @@ abbrev corner : String
 corner = "LET F() BE $( LET A=VALOF WHILE G DO LOOP\nB:=1 $)"
 
 abbrev its-program : Read
-its-program =
-    giving waiting
+its-program = giving waiting
     (andCommand (plain (T.assignment (andExpression (name 42) noExpressions) (andExpression (T.number 45 1) noExpressions))) noCommands)
 
 unfoldable before-table : Table String Read
-before-table =
-    loop gives refused 6 38 ∷
+before-table = loop gives refused 6 38 ∷
     bracket gives giving (T.suffixed waiting (T.call (andExpression (name 43) noExpressions) (T.call noExpressions noSuffixes))) noCommands ∷
     corner gives its-program ∷
     []
@@ -61,10 +59,8 @@ unfolding formerlyIn before-table
 before-examples = refl
 
 unfoldable now-table : Table String Read
-now-table =
-    loop gives
-    routine (plain (T.guarded K.WHILE (name 17)
-    (plain (T.block noLocals (andCommand (plain (T.guarded K.IF (name 28) (plain (T.leave K.LOOP 33))))
+now-table = loop gives
+    routine (plain (T.guarded K.WHILE (name 17) (plain (T.block noLocals (andCommand (plain (T.guarded K.IF (name 28) (plain (T.leave K.LOOP 33))))
     (andCommand (plain (called 38)) noCommands)))))) ∷
     bracket gives
     giving waiting (andCommand (plain (T.callCommand (T.suffixed (T.bracketed 42 (name 43)) (T.call noExpressions noSuffixes)))) noCommands) ∷
@@ -76,8 +72,7 @@ unfolding programIn now-table
 now-examples = refl
 
 unfoldable count-table : Table (List ℕ) ℕ
-count-table =
-    formerly gives 18 ∷
+count-table = formerly gives 18 ∷
     firsts gives 19 ∷
     []
 

@@ -95,14 +95,9 @@ begun-table =
     -- 42: the byte 200
     (65 ∷ 200 ∷ [], "\"") gives (42, 10) ∷
     -- 43: at most 255 characters, at the 256th; but a 256th that is a mistake is that mistake, and one before it comes first
-    (times 255 (65 ∷ []), "\"") gives (0, 0) ∷
-    (times 255 (65 ∷ []), "A\"") gives (43, 264) ∷
-    (times 255 (65 ∷ []), "*N*Q\"") gives (43, 264) ∷
-    (times 255 (65 ∷ []), "\t\"") gives (42, 264) ∷
-    (times 255 (65 ∷ []), "*Q\"") gives (41, 264) ∷
-    (times 255 (65 ∷ []), "A\n\"") gives (40, 8) ∷
-    (times 255 (bytes "*000"), "\"") gives (0, 0) ∷
-    (times 255 (bytes "*000"), "*000\"") gives (43, 1029) ∷
+    (times 255 (65 ∷ []), "\"") gives (0, 0) ∷ (times 255 (65 ∷ []), "A\"") gives (43, 264) ∷ (times 255 (65 ∷ []), "*N*Q\"") gives (43, 264) ∷
+    (times 255 (65 ∷ []), "\t\"") gives (42, 264) ∷ (times 255 (65 ∷ []), "*Q\"") gives (41, 264) ∷ (times 255 (65 ∷ []), "A\n\"") gives (40, 8) ∷
+    (times 255 (bytes "*000"), "\"") gives (0, 0) ∷ (times 255 (bytes "*000"), "*000\"") gives (43, 1029) ∷
     (times 255 (bytes "*000"), "*300\"") gives (41, 1029) ∷
     []
 

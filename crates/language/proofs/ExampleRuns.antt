@@ -91,8 +91,7 @@ told-table =
     -- REPEATWHILE: its body is begun, and a turn counted, each time round; and the test
     ("$( A := A + 1 $) REPEATWHILE A < 2", "") gives told 18 0 (bytes "") ∷
     -- division by zero
-    ("A := 1 / A", "") gives undefined-act ∷
-    ("A := 1 REM A", "") gives undefined-act ∷
+    ("A := 1 / A", "") gives undefined-act ∷ ("A := 1 REM A", "") gives undefined-act ∷
     -- reading an address that is no global, string word or live named word
     ("A := !0", "") gives undefined-act ∷
     -- writing one

@@ -5,8 +5,7 @@ use Rattle.laws.proofs.Table.{Table, _gives_, Each}
 use Rattle.language.proofs.Texts.{verdict}
 
 unfoldable verdict-table : Table String (ℕ × ℕ)
-verdict-table =
-    ("MANIFEST $( MX1.A =- 512;$) GLOBAL $( S2 : 1\n  RDCH :13 ;\nWRCH :14; G3:\n24\nGX4.A : 25\r\n\tG.5 // (\n  : 26 $)LET FX6.A( "
+verdict-table = ("MANIFEST $( MX1.A =- 512;$) GLOBAL $( S2 : 1\n  RDCH :13 ;\nWRCH :14; G3:\n24\nGX4.A : 25\r\n\tG.5 // (\n  : 26 $)LET FX6.A( "
     ++ "PX7.A) = 25899 |MX1.A\n+ 0 = 512/ 1 - GX4.A LET\nS2 ( )=VALOF // (\n  RESULTIS // (\n  ( @ G3 ) !0") gives (0, 0) ∷
     ("MANIFEST $(  TEST MX1.A =- 512;$) GLOBAL $( G.5 : 1\n  RDCH :13 ;\nWRCH :14; G3:\n24\nGX4.A : 25\r\n\tG.5 // (\n  : 26 $)LET "
     ++ "FX6.A( PX7.A) = 25899 |MX1.A\n+ 0 = 512/ 1 - GX4.A LET\nS2 ( )=VALOF // (\n  RESULTIS // (\n  ( @ G3 ) !0") gives (6, 13) ∷

@@ -107,8 +107,7 @@ module _ {s t : Source} {at x : ℕ} where
   any-start p = record { rest = flush-nearer (p .rest) }
 
   same-symbol : Wider s t → Stands s t flush at x → symbolAt t x ≡ symbolAt s at
-  same-symbol w p =
-      ap (λ (k : ℕ). getD (t .symbols) x (record { kind = K.NOTHING; value = 0; place = k })) (w .size) ∙
+  same-symbol w p = ap (λ (k : ℕ). getD (t .symbols) x (record { kind = K.NOTHING; value = 0; place = k })) (w .size) ∙
       sym (at-zero (t .symbols) x _) ∙ first-alike _ (p .rest) ∙ at-zero (s .symbols) at _
 
   same-kind : Wider s t → Stands s t flush at x → kindAt t x ≡ kindAt s at
@@ -121,9 +120,7 @@ module _ {s t : Source} {at x : ℕ} where
   -- flush after all, or at an extra semicolon
   near-cases : {T : Type 0} → Stands s t near at x → (Stands s t flush at x → T)
       → (kindAt t x ≡ K.SEMICOLON → member (kindAt s at) others ≡ true → Stands s t flush at (x + 1) → T) → T
-  near-cases p f g =
-      near-rest (ending s) (ending t) (p .rest)
-      (λ r. f (record { rest = r }))
+  near-cases p f g = near-rest (ending s) (ending t) (p .rest) (λ r. f (record { rest = r }))
       (λ e h r. g (rw at-zero at e) (rw at-zero at h) (record { rest = rw drop-drop at r }))
 
 -- ---- tests of the symbol here
@@ -136,8 +133,7 @@ noneOf b (k ∷ ks) = cond (b k) false (noneOf b ks)
 pub none-of : (b : ℕ → Bool) (ks : List ℕ) (k : ℕ) → noneOf b ks ≡ true → member k ks ≡ true → b k ≡ false
 unfolding member
 none-of b [] k h m = cc
-none-of b (j ∷ ks) k h m =
-    by-cases (b j) (λ g. let z : false ≡ true = rw g at h in contradiction cc) (λ g.
+none-of b (j ∷ ks) k h m = by-cases (b j) (λ g. let z : false ≡ true = rw g at h in contradiction cc) (λ g.
     by-cases (eqb k j) (λ e. ap b (eqb-true k j e) ∙ g) (λ e. none-of b ks k (rw g at h) (rw e at m)))
 
 one-more : (k j : ℕ) (ks : List ℕ) → member k ks ≡ true → member k (j ∷ ks) ≡ true
@@ -154,8 +150,7 @@ tested : {T : Type 0} {s t : Source} (i : Bool) (b : ℕ → Bool) → blind i b
     → (b (kindAt t x) ≡ b (kindAt s at) → (b (kindAt s at) ≡ true → Stands s t flush at x) → T) → T
 unfolding member
 tested false b h w at x p f = f (ap b (same-kind w p)) (λ _. p)
-tested {s = s} {t = t} true b h w at x p f =
-    near-cases p (λ q. f (ap b (same-kind w q)) (λ _. q))
+tested {s = s} {t = t} true b h w at x p f = near-cases p (λ q. f (ap b (same-kind w q)) (λ _. q))
     (λ e m _. let no-t : b (kindAt t x) ≡ false = ap b e ∙ none-of b (K.SEMICOLON ∷ others) K.SEMICOLON h refl in
     let no-s : b (kindAt s at) ≡ false = none-of b (K.SEMICOLON ∷ others) (kindAt s at) h (one-more (kindAt s at) K.SEMICOLON others m) in
     f (no-t ∙ sym no-s) (λ y. contradiction cc))
@@ -216,21 +211,19 @@ module _ {A : Type 0} {k : Bool} where
   -- a choice by the symbol here
   pub keeps-cond : {i o : Bool} {r r′ : Reader A} (b : ℕ → Bool) → blind i b ≡ true → KeepsAt k b o r → Keeps k i o r′
       → Keeps k i o (λ s at. cond (b (kindAt s at)) (r s at) (r′ s at))
-  keeps-cond {i} b h l l′ =
-      record {
-        local = L.local-cond _ _ (l .local) (l′ .local) b;
-        keeps = λ {s} {t} w at x p.
-            tested i b h w at x p (λ e q. kept-cond (b (kindAt s at)) (b (kindAt t x)) e (λ y. l .keeps-at w at x y (q y)) (λ _. l′ .keeps w at x p));
-      }
+  keeps-cond {i} b h l l′ = record {
+    local = L.local-cond _ _ (l .local) (l′ .local) b;
+    keeps = λ {s} {t} w at x p.
+        tested i b h w at x p (λ e q. kept-cond (b (kindAt s at)) (b (kindAt t x)) e (λ y. l .keeps-at w at x y (q y)) (λ _. l′ .keeps w at x p));
+  }
 
   pub at-cond : {o : Bool} {b : ℕ → Bool} {r r′ : Reader A} (b′ : ℕ → Bool) → KeepsAt k b o r → KeepsAt k b o r′
       → KeepsAt k b o (λ s at. cond (b′ (kindAt s at)) (r s at) (r′ s at))
-  at-cond b′ l l′ =
-      record {
-        local = L.local-cond _ _ (l .local) (l′ .local) b′;
-        keeps-at = λ {s} {t} w at x h p.
-            kept-cond (b′ (kindAt s at)) (b′ (kindAt t x)) (ap b′ (same-kind w p)) (λ _. l .keeps-at w at x h p) (λ _. l′ .keeps-at w at x h p);
-      }
+  at-cond b′ l l′ = record {
+    local = L.local-cond _ _ (l .local) (l′ .local) b′;
+    keeps-at = λ {s} {t} w at x h p.
+        kept-cond (b′ (kindAt s at)) (b′ (kindAt t x)) (ap b′ (same-kind w p)) (λ _. l .keeps-at w at x h p) (λ _. l′ .keeps-at w at x h p);
+  }
 
   -- a choice that does not depend on the symbols
   pub keeps-choice : {i o : Bool} {r r′ : Reader A} (b : Bool) → Keeps k i o r → Keeps k i o r′ → Keeps k i o (λ s at. cond b (r s at) (r′ s at))
@@ -239,18 +232,16 @@ module _ {A : Type 0} {k : Bool} where
 
 module _ {A B : Type 0} {k m o : Bool} {r : Reader A} {f : A → Reader B} where
   pub after : {i : Bool} → Keeps k i m r → ((a : A) → Keeps false m o (f a)) → Keeps k i o (r >>= f)
-  after l g =
-      record {
-        local = L.local-bind r f (l .local) (λ a. g a .local);
-        keeps = λ w at x p. kept-bind (l .keeps w at x p) (λ a n y q. g a .keeps w n y q);
-      }
+  after l g = record {
+    local = L.local-bind r f (l .local) (λ a. g a .local);
+    keeps = λ w at x p. kept-bind (l .keeps w at x p) (λ a n y q. g a .keeps w n y q);
+  }
 
   pub at-after : {b : ℕ → Bool} → KeepsAt k b m r → ((a : A) → Keeps false m o (f a)) → KeepsAt k b o (r >>= f)
-  at-after l g =
-      record {
-        local = L.local-bind r f (l .local) (λ a. g a .local);
-        keeps-at = λ w at x h p. kept-bind (l .keeps-at w at x h p) (λ a n y q. g a .keeps w n y q);
-      }
+  at-after l g = record {
+    local = L.local-bind r f (l .local) (λ a. g a .local);
+    keeps-at = λ w at x h p. kept-bind (l .keeps-at w at x h p) (λ a n y q. g a .keeps w n y q);
+  }
 
 -- ---- symbols
 
@@ -264,11 +255,10 @@ keeps-any {k} = record { local = taken-one k L.local-any; keeps = λ w at x p. g
 -- past a symbol that is no LOOP stands no extra semicolon
 pub at-symbol : {k : Bool} (b : ℕ → Bool) → b K.LOOP ≡ false → KeepsAt k b flush any
 unfolding any
-at-symbol {k} b h =
-    record {
-      local = taken-one k L.local-any;
-      keeps-at = λ {s} {t} w at x e p. gave-same (same-symbol w p) (rw (not-loop b (kindAt s at) h e) at (on p));
-    }
+at-symbol {k} b h = record {
+  local = taken-one k L.local-any;
+  keeps-at = λ {s} {t} w at x e p. gave-same (same-symbol w p) (rw (not-loop b (kindAt s at) h e) at (on p));
+}
 
 -- and what is made of it
 pub at-made : {A : Type 0} {k : Bool} (b : ℕ → Bool) (f : Symbol → A) → b K.LOOP ≡ false → KeepsAt k b flush (any >>= λ x. return (f x))
@@ -290,13 +280,11 @@ the-flush kind l = keeps-cond (λ k. eqb k kind) refl (at-made _ (λ x. x .place
 pub keeps-the : {k i : Bool} (kind : ℕ) → noneOf (λ k. eqb k kind) (barred i) ≡ true → Keeps k i flush (the kind)
 unfolding the unexpected member
 keeps-the {i = false} kind h = the-flush kind (none-of (λ k. eqb k kind) (barred flush) K.LOOP h refl)
-keeps-the {k} {i = true} kind h =
-    record {
-      local = taken-one k (L.local-the kind);
-      keeps = λ {s} {t} w at x p.
-          near-cases p (the-flush {k = false} kind (none-of (λ k. eqb k kind) others K.LOOP h refl) .keeps w at x)
-          (λ e m q. rw (none-of (λ k. eqb k kind) others (kindAt s at) h m) refuses);
-    }
+keeps-the {k} {i = true} kind h = record {
+  local = taken-one k (L.local-the kind);
+  keeps = λ {s} {t} w at x p. near-cases p (the-flush {k = false} kind (none-of (λ k. eqb k kind) others K.LOOP h refl) .keeps w at x)
+      (λ e m q. rw (none-of (λ k. eqb k kind) others (kindAt s at) h m) refuses);
+}
 
 pub keeps-name : {k : Bool} → Keeps k flush flush aName
 unfolding aName any
@@ -315,14 +303,12 @@ module _ {A : Type 0} (a : A) where
 
   pub keeps-optional : Keeps false near flush (optional K.SEMICOLON >>= λ _. return a)
   unfolding optional
-  keeps-optional =
-      record {
-        local = optional-flush .local;
-        keeps = λ {s} {t} w at x p.
-            near-cases p (optional-flush .keeps w at x)
-            (λ e m q. taken at x (is K.SEMICOLON s at) (is K.SEMICOLON t x) (none-of (λ k. eqb k K.SEMICOLON) others (kindAt s at) refl m)
-            (ap (λ (k : ℕ). eqb k K.SEMICOLON) e) q);
-      }
+  keeps-optional = record {
+    local = optional-flush .local;
+    keeps = λ {s} {t} w at x p. near-cases p (optional-flush .keeps w at x)
+        (λ e m q. taken at x (is K.SEMICOLON s at) (is K.SEMICOLON t x) (none-of (λ k. eqb k K.SEMICOLON) others (kindAt s at) refl m)
+        (ap (λ (k : ℕ). eqb k K.SEMICOLON) e) q);
+  }
 
 -- ---- lists
 
@@ -333,14 +319,12 @@ module _ {A : Type 0} {i : Bool} (none : A) (begins : ℕ → Bool) (item : Read
   pub keeps-fixed : (n : ℕ) → Keeps false i i (manyUpTo n none begins item)
   unfolding manyUpTo
   keeps-fixed zero = keeps-return none
-  keeps-fixed (suc n) =
-      record {
-        local = L.fixed none begins item (l .local) (suc n);
-        keeps = λ {s} {t} w at x p.
-            tested i begins h w at x p (λ e q. kept-elim (begins (kindAt s at)) (begins (kindAt t x)) e
-            (λ y. kept-bind (l .keeps-at w at x y (q y)) (λ put n₁ x₁ p₁. kept-bind (keeps-fixed n .keeps w n₁ x₁ p₁) (λ rest n₂ x₂ p₂. gave p₂)))
-            (λ _. gave p));
-      }
+  keeps-fixed (suc n) = record {
+    local = L.fixed none begins item (l .local) (suc n);
+    keeps = λ {s} {t} w at x p. tested i begins h w at x p (λ e q. kept-elim (begins (kindAt s at)) (begins (kindAt t x)) e
+        (λ y. kept-bind (l .keeps-at w at x y (q y)) (λ put n₁ x₁ p₁. kept-bind (keeps-fixed n .keeps w n₁ x₁ p₁) (λ rest n₂ x₂ p₂. gave p₂)))
+        (λ _. gave p));
+  }
 
   module _ (stop : begins K.NOTHING ≡ false) where
     -- with turns enough in the first source, and as many or more in the second
@@ -351,19 +335,16 @@ module _ {A : Type 0} {i : Bool} (none : A) (begins : ℕ → Bool) (item : Read
         tested i begins h w at x p (λ e _. let f : begins (kindAt t x) ≡ false = e ∙ ap begins (ended s at (omega arith)) ∙ stop in
         rw (none-here none begins item m t x f) (gave p))
     each (suc n) zero k w at x z p = absurd (omega arith)
-    each (suc n) (suc m) k {s} {t} w at x z p =
-        tested i begins h w at x p (λ e q. kept-elim (begins (kindAt s at)) (begins (kindAt t x)) e
+    each (suc n) (suc m) k {s} {t} w at x z p = tested i begins h w at x p (λ e q. kept-elim (begins (kindAt s at)) (begins (kindAt t x)) e
         (λ y. kept-ahead (l .local .local (self s at) at .ahead) (l .keeps-at w at x y (q y))
-        (λ put n₁ x₁ a p₁. kept-bind (each n m (omega arith) w n₁ x₁ (omega arith) p₁) (λ rest n₂ x₂ p₂. gave p₂)))
-        (λ _. gave p))
+        (λ put n₁ x₁ a p₁. kept-bind (each n m (omega arith) w n₁ x₁ (omega arith) p₁) (λ rest n₂ x₂ p₂. gave p₂))) (λ _. gave p))
 
     pub keeps-many : Keeps false i i (many none begins item)
     unfolding many
-    keeps-many =
-        record {
-          local = L.local-many none begins item (l .local) stop;
-          keeps = λ {s} {t} w at x p. each (length (s .symbols)) (length (t .symbols)) (w .longer) w at x (omega arith) p;
-        }
+    keeps-many = record {
+      local = L.local-many none begins item (l .local) stop;
+      keeps = λ {s} {t} w at x p. each (length (s .symbols)) (length (t .symbols)) (w .longer) w at x (omega arith) p;
+    }
 
 -- { ; item } [;] $)
 module _ {A : Type 0} (none : A) (item : Reader (A → A)) (l : Keeps false flush near item) where
@@ -372,28 +353,24 @@ module _ {A : Type 0} (none : A) (item : Reader (A → A)) (l : Keeps false flus
   unfolding moreUpTo unexpected
   keeps-more zero m k w at x p = refuses
   keeps-more (suc n) zero k w at x p = absurd (omega arith)
-  keeps-more (suc n) (suc m) k {s} {t} w at x p =
-      at-end near refl at x p
+  keeps-more (suc n) (suc m) k {s} {t} w at x p = at-end near refl at x p
       (kept-bind (keeps-the {k = false} K.SEMICOLON refl .keeps w at x p) (λ _ n₁ x₁ p₁. at-end flush refl n₁ x₁ p₁
       (kept-bind (l .keeps w n₁ x₁ p₁) (λ put n₂ x₂ p₂. kept-bind (keeps-more n m (omega arith) w n₂ x₂ p₂) (λ rest n₃ x₃ p₃. gave p₃)))))
     where
       at-end : (i : Bool) → blind i (λ k. eqb k K.END) ≡ true → (at x : ℕ) → Stands s t i at x → {o o′ : Out A} → Kept s t flush o o′
           → Kept {A = A} s t flush (elim (is K.END s at) [ true ↦ ok none (at + 1) | false ↦ o ])
           (elim (is K.END t x) [ true ↦ ok none (x + 1) | false ↦ o′ ])
-      at-end i h at x p f =
-          tested i (λ k. eqb k K.END) h w at x p (λ e q. kept-elim (is K.END s at) (is K.END t x) e
+      at-end i h at x p f = tested i (λ k. eqb k K.END) h w at x p (λ e q. kept-elim (is K.END s at) (is K.END t x) e
           (λ y. gave (rw (not-loop (λ k. eqb k K.END) (kindAt s at) refl y) at (on (q y)))) (λ _. f))
 
   -- item { ; item } [;] $)
   pub keeps-items : Keeps false flush flush (items none item)
   unfolding items
-  keeps-items =
-      record {
-        local = L.local-items none item (l .local);
-        keeps = λ {s} {t} w at x p.
-            kept-bind (l .keeps w at x p) (λ put n₁ x₁ p₁.
-            kept-bind (keeps-more (length (s .symbols)) (length (t .symbols)) (w .longer) w n₁ x₁ p₁) (λ rest n₂ x₂ p₂. gave p₂));
-      }
+  keeps-items = record {
+    local = L.local-items none item (l .local);
+    keeps = λ {s} {t} w at x p. kept-bind (l .keeps w at x p) (λ put n₁ x₁ p₁.
+        kept-bind (keeps-more (length (s .symbols)) (length (t .symbols)) (w .longer) w n₁ x₁ p₁) (λ rest n₂ x₂ p₂. gave p₂));
+  }
 
   -- { , item }
   pub keeps-further : Keeps false near near (furtherItems none item)
@@ -403,6 +380,5 @@ module _ {A : Type 0} (none : A) (item : Reader (A → A)) (l : Keeps false flus
   -- [item { , item }] )
   pub keeps-up-to-close : Keeps false flush flush (upToClose none item)
   unfolding upToClose oneUpToClose any
-  keeps-up-to-close =
-      keeps-cond (λ k. eqb k K.CLOSE) refl (at-made _ (λ _. none) refl)
+  keeps-up-to-close = keeps-cond (λ k. eqb k K.CLOSE) refl (at-made _ (λ _. none) refl)
       (after l (λ put. after keeps-further (λ rest. after (keeps-the K.CLOSE refl) (λ _. keeps-return _))))

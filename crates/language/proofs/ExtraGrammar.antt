@@ -90,11 +90,7 @@ chain b c {left} {right} f g = after f (λ e. after (by (eqb b RELATION)) (λ os
 module _ {inner : Inside} (k : InsideOf KeptReaders inner) where
   primary : Reads (E.primary inner)
   unfolding E.primary E.numeral E.quotation E.truth E.named E.bracketed E.valof
-  primary =
-      if-it-is K.NUMBER (a-symbol _)
-      (if-it-is K.STRING (a-symbol _)
-      (if-it-is K.TRUE (a-symbol _)
-      (if-it-is K.FALSE (a-symbol _)
+  primary = if-it-is K.NUMBER (a-symbol _) (if-it-is K.STRING (a-symbol _) (if-it-is K.TRUE (a-symbol _) (if-it-is K.FALSE (a-symbol _)
       (if-it-is K.NAME (a-name _)
       (if-it-is K.OPEN (keeps-opening _ k λ r b. past K.OPEN refl λ place. after (b .expressions LOOSEST) λ e. past K.CLOSE refl λ _. end-near)
       (if-it-is K.VALOF (keeps-opening _ k λ r b. past K.VALOF refl λ place. after (b .commands) λ c. end-near)
@@ -106,30 +102,25 @@ module _ {inner : Inside} (k : InsideOf KeptReaders inner) where
 
   suffix : Keeps true flush near (E.suffix inner)
   unfolding E.suffix E.arguments E.index E.subscript isMonadic member
-  suffix =
-      if-it-is K.OPEN
-      (keeps-opening _ k λ r b. past K.OPEN refl λ place.
+  suffix = if-it-is K.OPEN (keeps-opening _ k λ r b. past K.OPEN refl λ place.
       after (keeps-up-to-close T.noExpressions _ (after (b .expressions LOOSEST) λ e. end-near)) λ es. end-near)
       (past K.PLING refl λ place. after (keeps-cond isMonadic refl (monadic isMonadic refl) primary) λ e. end-near)
 
   -- no suffix begins after an extra semicolon: this is where the bracket is left out
   operand : Reads (E.operand inner)
   unfolding E.operand E.suffixed isMonadic isSuffix member
-  operand =
-      keeps-cond isMonadic refl (monadic isMonadic refl)
+  operand = keeps-cond isMonadic refl (monadic isMonadic refl)
       (after primary λ e. after (keeps-many T.noSuffixes isSuffix _ refl (at-any suffix) refl) λ ss. end-near)
 
   expression : (binding : ℕ) → Reads (E.expression inner binding)
   unfolding E.negations bindingOf member
-  expression =
-      by-binding (λ _ r. Reads r) Chains (λ _ _ _ _ l. l) (λ b _ c _ _. chain b c) inner operand
+  expression = by-binding (λ _ r. Reads r) Chains (λ _ _ _ _ l. l) (λ b _ c _ _. chain b c) inner operand
       (keeps-cond (λ k. eqb k K.NOT) refl (monadic (λ k. eqb k K.NOT) refl))
       (refl, refl) (refl, refl) (refl, refl) (refl, refl) (refl, refl) (refl, refl)
 
   constant : Reads (E.constant inner)
   unfolding E.constant E.negative E.positive E.simple E.literal E.truthLiteral E.known
-  constant =
-      if-it-is K.MINUS (keeps-opening _ k λ r b. past K.MINUS refl λ place. after simple λ _. end-near)
+  constant = if-it-is K.MINUS (keeps-opening _ k λ r b. past K.MINUS refl λ place. after simple λ _. end-near)
       (after keeps-here λ place. after simple λ _. end-near)
     where
       simple : Reads E.simple
@@ -140,8 +131,7 @@ module _ {inner : Inside} (k : InsideOf KeptReaders inner) where
 module _ {r : Readers} (b : KeptReaders r) where
   test : Reads (C.test r)
   unfolding C.test
-  test =
-      past K.TEST refl λ _. after (b .expressions LOOSEST) λ e.
+  test = past K.TEST refl λ _. after (b .expressions LOOSEST) λ e.
       past K.DO refl λ _. after (b .commands) λ c. past K.OR refl λ _. after (b .commands) λ d. end-near
 
   guarded : KeepsAt false isGuard near (C.guarded r)
@@ -150,8 +140,7 @@ module _ {r : Readers} (b : KeptReaders r) where
 
   for : Reads (C.for r)
   unfolding C.for C.optionalBy C.by
-  for =
-      past K.FOR refl λ _. after keeps-name λ n.
+  for = past K.FOR refl λ _. after keeps-name λ n.
       past K.EQUAL refl λ _. after (b .expressions LOOSEST) λ e.
       past K.TO refl λ _. after (b .expressions LOOSEST) λ d.
       after (keeps-cond (λ k. eqb k K.BY) refl (at-any (past K.BY refl λ _. after (b .constants) λ c. end-near)) end-near) λ k.
@@ -179,21 +168,18 @@ module _ {r : Readers} (b : KeptReaders r) where
   -- an extra semicolon behind it is the optional one
   local-declaration : Keeps true flush flush (C.local r)
   unfolding C.local C.furtherName
-  local-declaration =
-      past K.LET refl λ _. after keeps-name λ n. after (keeps-flush (keeps-further [] _ (a-name _))) λ ns.
+  local-declaration = past K.LET refl λ _. after keeps-name λ n. after (keeps-flush (keeps-further [] _ (a-name _))) λ ns.
       past K.EQUAL refl λ _. after (given-to n ns) λ put. keeps-optional put
 
   block : Reads (C.block r)
   unfolding C.block C.commandsToEnd C.semicolonEnd any
-  block =
-      past K.BEGIN refl λ _. after (keeps-many T.noLocals (λ kind. eqb kind K.LET) _ refl (at-any local-declaration) refl) λ ls.
+  block = past K.BEGIN refl λ _. after (keeps-many T.noLocals (λ kind. eqb kind K.LET) _ refl (at-any local-declaration) refl) λ ls.
       after (keeps-cond (λ k. eqb k K.END) refl (at-made _ (λ _. T.noCommands) refl)
       (if-it-is K.SEMICOLON (past K.SEMICOLON refl λ _. past K.END refl λ _. keeps-return _) the-items)) λ cs. end-near
 
   assignment-or-call : Reads (C.assignmentOrCall r)
   unfolding C.assignmentOrCall C.afterExpression C.assignment C.callCommand C.furtherSide goesOnAssignment member
-  assignment-or-call =
-      after (b .expressions LOOSEST) λ e.
+  assignment-or-call = after (b .expressions LOOSEST) λ e.
       keeps-cond goesOnAssignment refl
       (at-any (keeps-flush (after (keeps-further T.noExpressions _ (after (b .expressions LOOSEST) λ _. end-near)) λ es.
       past K.ASSIGN refl λ _. after (b .expressions LOOSEST) λ d. after (further (count es)) λ ds. end-near)))
@@ -201,19 +187,13 @@ module _ {r : Readers} (b : KeptReaders r) where
 
   unlabelled : Reads (C.unlabelled r)
   unfolding C.unlabelled C.resultis C.leave
-  unlabelled =
-      if-it-is K.TEST test
-      (keeps-cond isGuard refl guarded
-      (if-it-is K.FOR for
-      (if-it-is K.SWITCHON switchon
-      (if-it-is K.RESULTIS (past K.RESULTIS refl λ place. after (b .expressions LOOSEST) λ e. end-near)
-      (either isLeave (a-symbol _)
+  unlabelled = if-it-is K.TEST test (keeps-cond isGuard refl guarded (if-it-is K.FOR for (if-it-is K.SWITCHON switchon
+      (if-it-is K.RESULTIS (past K.RESULTIS refl λ place. after (b .expressions LOOSEST) λ e. end-near) (either isLeave (a-symbol _)
       (if-it-is K.BEGIN block assignment-or-call))))))
 
   repeat-form : KeepsAt true isRepeat near (C.repeatForm r)
   unfolding C.repeatForm C.repeat C.repeatOn isRepeat member
-  repeat-form =
-      at-cond (λ k. eqb k K.REPEAT) (at-any (past K.REPEAT refl λ _. end-near))
+  repeat-form = at-cond (λ k. eqb k K.REPEAT) (at-any (past K.REPEAT refl λ _. end-near))
       (at-after (at-symbol isRepeat refl) λ x. after (b .expressions LOOSEST) λ e. end-near)
 
   repeated : (ls : List Label) → Reads (C.repeated r ls)
@@ -228,14 +208,12 @@ empty-command (l ∷ ls) = end-near
 module _ {inner : Inside} (k : InsideOf KeptReaders inner) where
   label : Keeps true flush flush (C.label inner)
   unfolding C.label C.case C.default
-  label =
-      after (if-it-is K.CASE (past K.CASE refl λ place. after (constant k) λ c. past K.COLON refl λ _. keeps-return _)
+  label = after (if-it-is K.CASE (past K.CASE refl λ place. after (constant k) λ c. past K.COLON refl λ _. keeps-return _)
       (past K.DEFAULT refl λ place. past K.COLON refl λ _. keeps-return _)) λ l. keeps-return _
 
   command : Reads (C.command inner)
   unfolding C.command C.afterLabels isLabel member
-  command =
-      after (keeps-many [] isLabel _ refl (at-any label) refl) λ ls.
+  command = after (keeps-many [] isLabel _ refl (at-any label) refl) λ ls.
       either beginsCommand (keeps-opening (λ r. C.repeated r ls) k λ r b. repeated b ls) (empty-command ls)
 
 kept-within : (n : ℕ) → InsideOf KeptReaders (G.within n)
@@ -249,8 +227,7 @@ item sign h = after keeps-name λ n. past sign h λ _. after (constant (kept-wit
 
 body : Reads G.body
 unfolding G.body G.value G.routine
-body =
-    if-it-is K.EQUAL (past K.EQUAL refl λ _. after (expression (kept-within 64) LOOSEST) λ e. end-near)
+body = if-it-is K.EQUAL (past K.EQUAL refl λ _. after (expression (kept-within 64) LOOSEST) λ e. end-near)
     (past K.BE refl λ _. after (command (kept-within 64)) λ c. end-near)
 
 function : Reads G.function
@@ -263,8 +240,7 @@ and-function = past K.AND refl λ _. function
 
 declaration : Keeps true flush near G.declaration
 unfolding G.declaration G.globals G.manifests G.functions
-declaration =
-    if-it-is K.GLOBAL (past K.GLOBAL refl λ _. past K.BEGIN refl λ _. after (keeps-items [] _ (item K.COLON refl)) λ xs. end-near)
+declaration = if-it-is K.GLOBAL (past K.GLOBAL refl λ _. past K.BEGIN refl λ _. after (keeps-items [] _ (item K.COLON refl)) λ xs. end-near)
     (if-it-is K.MANIFEST (past K.MANIFEST refl λ _. past K.BEGIN refl λ _. after (keeps-items [] _ (item K.EQUAL refl)) λ xs. end-near)
     (past K.LET refl λ _. after function λ put. after (keeps-many [] (λ kind. eqb kind K.AND) _ refl (at-any and-function) refl) λ fs. end-near))
 

@@ -23,16 +23,8 @@ pub data Character : Type 0 where
 
 unfoldable pub formerEscape : List ℕ → Character
 formerEscape [] = bad
-formerEscape (c ∷ r) =
-    cond (eqb c 78) (is 10 2)
-    (cond (eqb c 83) (is 32 2)
-    (cond (eqb c 84) (is 9 2)
-    (cond (eqb c 66) (is 8 2)
-    (cond (eqb c 80) (is 12 2)
-    (cond (eqb c 67) (is 13 2)
-    (cond (eqb c 42) (is 42 2)
-    (cond (eqb c 39) (is 39 2)
-    (cond (eqb c 34) (is 34 2) bad))))))))
+formerEscape (c ∷ r) = cond (eqb c 78) (is 10 2) (cond (eqb c 83) (is 32 2) (cond (eqb c 84) (is 9 2) (cond (eqb c 66) (is 8 2)
+    (cond (eqb c 80) (is 12 2) (cond (eqb c 67) (is 13 2) (cond (eqb c 42) (is 42 2) (cond (eqb c 39) (is 39 2) (cond (eqb c 34) (is 34 2) bad))))))))
 
 unfoldable pub formerCharacter : ℕ → List ℕ → Character
 formerCharacter quote [] = bad
@@ -82,8 +74,7 @@ formerScan (suc k) place (c ∷ r) = formerScan k (suc place) r
 formerScan zero place (c ∷ r) = onElement place (formerByClass (classOf c) (c ∷ r)) (λ k. formerScan k (suc place) r)
 
 unfoldable pub formerSymbols : List ℕ → Symbols
-formerSymbols text =
-    onFault (firstFault (length text) (brackets [] (formerScan 0 0 text .symbols)) (formerScan 0 0 text .ending))
+formerSymbols text = onFault (firstFault (length text) (brackets [] (formerScan 0 0 text .symbols)) (formerScan 0 0 text .ending))
     (semicolons text (numbered 0 (formerScan 0 0 text .symbols)))
 
 -- ---- a character is the same now
@@ -197,8 +188,7 @@ module _ (class : ℕ) (bs : List ℕ) where
 
   element-kept : KeptElement (formerByClass class bs) (byClass class bs)
   unfolding formerByClass
-  element-kept =
-      either-of (λ x. KeptElement x (byClass class bs)) (eqb class QUOTE) (λ e. quotes-kept (eqb-true class QUOTE e)) (λ _.
+  element-kept = either-of (λ x. KeptElement x (byClass class bs)) (eqb class QUOTE) (λ e. quotes-kept (eqb-true class QUOTE e)) (λ _.
       either-of (λ x. KeptElement x (byClass class bs)) (eqb class DOUBLE) (λ e. doubles-kept (eqb-true class DOUBLE e)) (λ _.
       same-element (byClass class bs)))
 
@@ -230,8 +220,7 @@ good-none (fault number place) xs e = cc
 -- a text whose symbols were good has just those symbols
 pub symbols-kept : (text : List ℕ) {ss : List Symbol} → formerSymbols text ≡ good ss → symbolsOf text ≡ good ss
 unfolding formerSymbols symbolsOf scan
-symbols-kept text e =
-    let m = brackets [] (formerScan 0 0 text .symbols) in
+symbols-kept text e = let m = brackets [] (formerScan 0 0 text .symbols) in
     let f = formerScan 0 0 text .ending in
     let n : f ≡ none
     = first-none (length text) m f (good-none (firstFault (length text) m f) (semicolons text (numbered 0 (formerScan 0 0 text .symbols))) e) in

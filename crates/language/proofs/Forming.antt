@@ -90,8 +90,7 @@ module _ (functions strings : ℕ) (text : List ℕ) where
       → FineFunctions strings fs → groupFaults text s fs ≡ [] → AllFormed functions strings (groupOf text k before s fs)
   unfolding groupOf groupFaults functionFaults resolved FineFunctions AllFormed
   group-formed k before s [] l sb sc f n = tt
-  group-formed k before s (x ∷ fs) l sb sc f n =
-      let h : ℕ = 2 + length (x .parameters) in
+  group-formed k before s (x ∷ fs) l sb sc f n = let h : ℕ = 2 + length (x .parameters) in
       let p = body-good (inside s x) h (x .body) (declared-all functions (opened s) 2 (x .parameters) (open-two s sc)) (f .0 .body) (search nones) in
       let sb′ = function-scoped before (x .name) k (startOf (lookup text before (x .name))) (omega arith) sb in
       let st = start-formed (lookup text before (x .name)) (lookup-known functions 0 text before (x .name) sb) in
@@ -128,8 +127,7 @@ module _ (functions strings : ℕ) (text : List ℕ) where
       → AllFormed functions strings (functionsFrom text w p)
   unfolding functionsFrom faultsFrom FineProgram AllFormed afterDeclaration
   all-formed w [] l f sc n = tt
-  all-formed w (d ∷ ds) l f sc n =
-      let e = length-append (declarationFunctions text w d) (functionsFrom text (afterDeclaration text w d) ds) in
+  all-formed w (d ∷ ds) l f sc n = let e = length-append (declarationFunctions text w d) (functionsFrom text (afterDeclaration text w d) ds) in
       let g = declaration-length w d in
       let m : w .functions + P.functionCount d ≤ functions = omega arith in
       all-both functions strings (declarationFunctions text w d) (functionsFrom text (afterDeclaration text w d) ds)

@@ -28,16 +28,15 @@ same-cond true h = h
 same-cond false h = same
 
 matching : (memory : ℕ) → Closed 0 memory memory Matching
-matching memory =
-    record {
-      stops = same;
-      finishes = same;
-      returns = same;
-      gives = same;
-      changes = λ c h. h;
-      reaches = λ p h s k. same-cond (leb (p + h) memory) (k _);
-      goes-on = λ k m f. same-after k m f;
-    }
+matching memory = record {
+  stops = same;
+  finishes = same;
+  returns = same;
+  gives = same;
+  changes = λ c h. h;
+  reaches = λ p h s k. same-cond (leb (p + h) memory) (k _);
+  goes-on = λ k m f. same-after k m f;
+}
 
 module _ (functions : List Fun) (place : Placement) (memory : ℕ) (input : List ℕ) where
   pub same-sem : (n m : ℕ) → n ≤ m → Related 0 Matching (sem functions place memory input n) (sem functions place memory input m)

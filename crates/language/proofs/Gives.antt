@@ -101,15 +101,13 @@ module _ {A : Type 0} (s : Source) (I : ℕ → A → ℕ → Type 0) (none : A)
   module _ (skip : (at : ℕ) (a : A) (m : ℕ) → I (at + 1) a m → I at a m) (g : (at : ℕ) → Put I at (item s at)) where
     pub further-of : (at : ℕ) → Answer (I at) (furtherItems none item s at)
     unfolding furtherItems
-    further-of =
-        many-of s I none nil _ isComma
+    further-of = many-of s I none nil _ isComma
         (λ at _. bind (past s at COMMA) (λ _ n q. related (g n) (λ put m keep a k i. skip at (put a) k (rw (q .next) at (keep a k i)))))
 
     -- up to a closing bracket, which may change the relation
     pub close-of : (J : ℕ → A → ℕ → Type 0) → ((at : ℕ) (a : A) (m : ℕ) → kindAt s m ≡ CLOSE → I at a m → J at a (m + 1))
         → (at : ℕ) → Answer (J at) (upToClose none item s at)
     unfolding upToClose oneUpToClose
-    close-of J close at =
-        either (is CLOSE s at) (λ e. answer (close at none at (eqb-true _ _ e) (nil at)))
+    close-of J close at = either (is CLOSE s at) (λ e. answer (close at none at (eqb-true _ _ e) (nil at)))
         (λ _. bind (g at) λ put n keep. bind (further-of n) λ a m i. bind (past s m CLOSE) λ _ k q.
         answer (rw (q .next) (close at (put a) m (q .kind) (keep a m i))))

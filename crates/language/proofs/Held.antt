@@ -50,16 +50,15 @@ module _ (first : ℕ) where
   Keeping A s x y = Kept first s x
 
   keeping : (memory : ℕ) → Closed first memory memory Keeping
-  keeping memory =
-      record {
-        stops = k-undefined;
-        finishes = k-finished (λ a l h. h);
-        returns = k-returned (λ a l h. h);
-        gives = k-ok (λ a l h. h);
-        changes = λ c k. kept-from (c .keeps) k;
-        reaches = λ p h s k. kept-cond (leb (p + h) memory) (kept-from (λ a l m. m) (k _));
-        goes-on = λ k m f. kept-after k m f;
-      }
+  keeping memory = record {
+    stops = k-undefined;
+    finishes = k-finished (λ a l h. h);
+    returns = k-returned (λ a l h. h);
+    gives = k-ok (λ a l h. h);
+    changes = λ c k. kept-from (c .keeps) k;
+    reaches = λ p h s k. kept-cond (leb (p + h) memory) (kept-from (λ a l m. m) (k _));
+    goes-on = λ k m f. kept-after k m f;
+  }
 
   module _ (functions : List Fun) (place : Placement) (memory : ℕ) (input : List ℕ) where
     -- in frames from `first` on
@@ -81,8 +80,7 @@ string-held [] addresses k i b l e m at = absurd (omega arith)
 string-held (cs ∷ strings) [] k i b l e m at = absurd (omega arith)
 string-held (cs ∷ strings) (a ∷ addresses) zero i b l e m at =
     rw (le-leb a b (omega arith), lt-ltb b (a + length (pairs (length cs) cs)) (omega arith)) held
-string-held (cs ∷ strings) (a ∷ addresses) (suc k) i b l e m at =
-    let h = string-held strings addresses k i b (omega arith) (omega arith) m at in
+string-held (cs ∷ strings) (a ∷ addresses) (suc k) i b l e m at = let h = string-held strings addresses k i b (omega arith) (omega arith) m at in
     by-cond Held (leb a b) (by-cond Held (ltb b (a + length (pairs (length cs) cs))) held h) h
 
 module _ (functions : List Fun) (strings : List (List ℕ)) (place : Placement) where
@@ -94,8 +92,7 @@ module _ (functions : List Fun) (strings : List (List ℕ)) (place : Placement) 
       → i < length (pairs (length (getD strings k [])) (getD strings k []))
       → 416 ≤ getD (place .strings) k 0 + i → Held (cellsAtStart functions strings place (getD (place .strings) k 0 + i))
   unfolding cellsAtStart
-  start-strings k i l e m above =
-      rw (le-leb 16 (getD (place .strings) k 0 + i) (omega arith), le-ltb (getD (place .strings) k 0 + i) 416 above)
+  start-strings k i l e m above = rw (le-leb 16 (getD (place .strings) k 0 + i) (omega arith), le-ltb (getD (place .strings) k 0 + i) 416 above)
       (string-held strings (place .strings) k i _ l e m refl)
 
   -- ---- and its end

@@ -137,8 +137,7 @@ leave-monadic o e p = by-monadic LeavesE o e p (leave-address e p) p
 
 leave-leaving : (l : Leavable) (w : ℕ) → leaves l w ≡ true → Leave l (leaving w)
 unfolding LeavesE
-leave-leaving l w h =
-    by-cases (eqb w BREAK) (λ e. rw e (rw e at h)) (λ e. rw e (by-cases (eqb w LOOP) (λ f. rw f (rw (e, f) at h)) (λ f. rw f
+leave-leaving l w h = by-cases (eqb w BREAK) (λ e. rw e (rw e at h)) (λ e. rw e (by-cases (eqb w LOOP) (λ f. rw f (rw (e, f) at h)) (λ f. rw f
     (by-cases (eqb w ENDCASE) (λ g. rw g (rw (e, f, g) at h)) (λ g. rw g (by-cond (Leave l) (eqb w RETURN) tt tt))))))
 
 leave-pairs : (l r : Exprs) → LeavesA l → LeavesA r → LeavesP (pairUp l r)
@@ -204,43 +203,36 @@ module _ (functions strings : ℕ) (text : List ℕ) where
     good-x : (s : Scope) (l : Leavable) (h : ℕ) (ss : Suffixes) → Scoped functions h s → FineSuffixes strings ss → inSuffixes text s l h ss ≡ []
         → (x : Expr) → GoodE (under ss h) x → GoodE h (E.suffixes text s h x ss)
     good-x s l h T.noSuffixes sc f n x p = p
-    good-x s l h (T.call es ss) sc f n x p =
-        let g : ℕ = under ss h + 2 in
+    good-x s l h (T.call es ss) sc f n x p = let g : ℕ = under ss h + 2 in
         let a = good-a s l g es (scoped-up functions s (omega (arith, under-more ss h)) sc) (f .0) (search nones) in
         good-x s l h ss sc (f .1) (search nones) (R.call x (E.expressions text s g es))
         ((a .0, rw (count-same functions strings text s g es) (p .0)), (a .1, p .1))
-    good-x s l h (T.index e ss) sc f n x p =
-        let g : ℕ = under ss h + 1 in
+    good-x s l h (T.index e ss) sc f n x p = let g : ℕ = under ss h + 1 in
         let d = good-e s l g e (scoped-up functions s (omega (arith, under-more ss h)) sc) (f .0) (search nones) in
         good-x s l h ss sc (f .1) (search nones) (R.index x (E.expression text s g e)) ((p .0, d .0), (p .1, d .1))
 
     good-o : (s : Scope) (l : Leavable) (h : ℕ) (os : Operations) → Scoped functions h s → FineOperations strings os → inOperations text s l h os ≡ []
         → (x : Expr) → GoodE h x → GoodE h (E.operations text s h x os)
     good-o s l h T.noOperations sc f n x p = p
-    good-o s l h (T.operation o e os) sc f n x p =
-        let d = good-e s l (h + 1) e (scoped-up functions s (omega arith) sc) (f .0) (search nones) in
+    good-o s l h (T.operation o e os) sc f n x p = let d = good-e s l (h + 1) e (scoped-up functions s (omega arith) sc) (f .0) (search nones) in
         good-o s l h os sc (f .1) (search nones) (R.binary o x (E.expression text s (h + 1) e)) ((p .0, d .0), (p .1, d .1))
 
     good-a : (s : Scope) (l : Leavable) (h : ℕ) (es : Expressions) → Scoped functions h s → FineList strings es → inExpressions text s l h es ≡ []
         → FormedA functions strings h (E.expressions text s h es) × LeavesA (E.expressions text s h es)
     good-a s l h T.noExpressions sc f n = (tt, tt)
-    good-a s l h (T.andExpression e es) sc f n =
-        let p = good-e s l h e sc (f .0) (search nones) in
-        let q = good-a s l (h + 1) es (scoped-up functions s (omega arith) sc) (f .1) (search nones) in
-        ((p .0, q .0), (p .1, q .1))
+    good-a s l h (T.andExpression e es) sc f n = let p = good-e s l h e sc (f .0) (search nones) in
+        let q = good-a s l (h + 1) es (scoped-up functions s (omega arith) sc) (f .1) (search nones) in ((p .0, q .0), (p .1, q .1))
 
     good-right : (s : Scope) (l : Leavable) (h : ℕ) (es : Expressions) → Scoped functions h s → FineList strings es → inRightSides text s l h es ≡ []
         → Sides functions strings text h (E.sides text s h es) × LeavesA (E.sides text s h es)
     good-right s l h T.noExpressions sc f n = (tt, tt)
-    good-right s l h (T.andExpression e es) sc f n =
-        let p = good-e s l h e sc (f .0) (search nones) in
+    good-right s l h (T.andExpression e es) sc f n = let p = good-e s l h e sc (f .0) (search nones) in
         let q = good-right s l h es sc (f .1) (search nones) in ((p .0, q .0), (p .1, q .1))
 
     good-sides : (s : Scope) (l : Leavable) (h : ℕ) (es : Expressions) → Scoped functions h s → FineList strings es → inSides text s l h es ≡ []
         → Sides functions strings text h (E.sides text s h es) × LeavesA (E.sides text s h es)
     good-sides s l h T.noExpressions sc f n = (tt, tt)
-    good-sides s l h (T.andExpression e es) sc f n =
-        let p = good-e s l h e sc (f .0) (search nones) in
+    good-sides s l h (T.andExpression e es) sc f n = let p = good-e s l h e sc (f .0) (search nones) in
         let q = good-sides s l h es sc (f .1) (search nones) in ((p .0, q .0), (p .1, q .1))
 
     pub good-c : (s : Scope) (l : Leavable) (h : ℕ) (c : Command) → Scoped functions h s → FineCommand strings c → inCommand text s l h c ≡ []
@@ -255,8 +247,7 @@ module _ (functions strings : ℕ) (text : List ℕ) where
         → (x : Cmd) → GoodC (repeated rs l) h x → GoodC l h (E.repeats text s h x rs)
     good-r s l h T.noRepeats sc f n x p = p
     good-r s l h (T.repeat rs) sc f n x p = good-r s l h rs sc f n (R.repeat x) (p .0, again rs l x (p .1))
-    good-r s l h (T.repeatOn w e rs) sc f n x p =
-        let q = good-e s l h e sc (f .0) (search nones) in
+    good-r s l h (T.repeatOn w e rs) sc f n x p = let q = good-e s l h e sc (f .0) (search nones) in
         good-r s l h rs sc (f .1) (search nones) (R.repeatWhile (eqb w REPEATWHILE) x (E.expression text s h e))
         ((p .0, q .0), (again rs l x (p .1), q .1))
 
@@ -267,32 +258,24 @@ module _ (functions strings : ℕ) (text : List ℕ) where
         let p = good-sides s l (h + 1) left (scoped-up functions s (omega arith) sc) (f .0) (search nones) in
         let q = good-right s l h right sc (f .1) (search nones) in
         let xs : Exprs = E.sides text s (h + 1) left in
-        let ys : Exprs = E.sides text s h right in
-        (formed-pairs functions strings text h xs ys (p .0) (q .0), leave-pairs xs ys (p .1) (q .1))
+        let ys : Exprs = E.sides text s h right in (formed-pairs functions strings text h xs ys (p .0) (q .0), leave-pairs xs ys (p .1) (q .1))
     good-u s l h (T.callCommand e) sc f n = good-e s l h e sc (f .0) n
-    good-u s l h (T.test e c d) sc f n =
-        let p = good-e s l h e sc (f .0) (search nones) in
-        let q = good-c s l h c sc (f .1) (search nones) in
+    good-u s l h (T.test e c d) sc f n = let p = good-e s l h e sc (f .0) (search nones) in let q = good-c s l h c sc (f .1) (search nones) in
         let r = good-c s l h d sc (f .2) (search nones) in ((p .0, q .0, r .0), (p .1, q .1, r .1))
-    good-u s l h (T.guarded w e c) sc f n =
-        let p = good-e s l h e sc (f .0) (search nones) in
+    good-u s l h (T.guarded w e c) sc f n = let p = good-e s l h e sc (f .0) (search nones) in
         good-guard functions strings l h w (E.expression text s h e) (E.command text s h c) (f .2) p (search nones)
         (λ q. good-c s l h c sc (f .1) q) (λ q. good-c s (inLoop l) h c sc (f .1) q)
-    good-u s l h (T.for x e d k c) sc f n =
-        let p = good-e s l h e sc (f .0) (search nones) in
+    good-u s l h (T.for x e d k c) sc f n = let p = good-e s l h e sc (f .0) (search nones) in
         let q = good-e s l (h + 1) d (scoped-up functions s (omega arith) sc) (f .1) (search nones) in
         let s′ : Scope = declared (opened s) x (N.local h) in
         let r = good-c s′ (inLoop l) (h + 2) c (for-scope functions strings text s h x sc) (f .3) (search nones) in
         ((p .0, q .0, r .0, formed-by functions strings text s h sc k (f .2)), (p .1, q .1, r .1))
-    good-u s l h (T.switchon e cs) sc f n =
-        let p = good-e s l h e sc (f .0) (search nones) in
-        let q = good-s s (inSwitch l) h [] cs sc (f .1) (search nones) in
-        ((p .0, q .0, few-cases functions strings text s h cs (f .2)), (p .1, q .1))
+    good-u s l h (T.switchon e cs) sc f n = let p = good-e s l h e sc (f .0) (search nones) in
+        let q = good-s s (inSwitch l) h [] cs sc (f .1) (search nones) in ((p .0, q .0, few-cases functions strings text s h cs (f .2)), (p .1, q .1))
     good-u s l h (T.resultis place e) sc f n =
         let p = good-e s l h e sc f (search nones) in (p .0, (p .1, unless-true (l .valof) place (search nones)))
     good-u s l h (T.leave w place) sc f n = (formed-leaving functions strings text h w, leave-leaving l w (unless-true (leaves l w) place n))
-    good-u s l h (T.block ls cs) sc f n =
-        let o = open-scoped functions strings text s h sc in
+    good-u s l h (T.block ls cs) sc f n = let o = open-scoped functions strings text s h sc in
         let p = good-l (opened s) l h ls o (f .0) (search nones) in
         let sc′ = scope-after functions strings text (opened s) h o ls in
         let q = good-b (scopeAfter text (opened s) h ls) l (E.heightAfter text (opened s) h ls) cs sc′ (f .1) (search nones) in
@@ -301,8 +284,7 @@ module _ (functions strings : ℕ) (text : List ℕ) where
     good-l : (s : Scope) (l : Leavable) (h : ℕ) (ls : T.Locals) → Scoped functions h s → FineLocals strings ls → inLocals text s l h ls ≡ []
         → FormedL functions strings h (E.locals text s h ls) × LeavesL (E.locals text s h ls)
     good-l s l h T.noLocals sc f n = (tt, tt)
-    good-l s l h (T.vector x k ls) sc f n =
-        let m : ℕ = h + 2 + judgedWord (forVector text s k) in
+    good-l s l h (T.vector x k ls) sc f n = let m : ℕ = h + 2 + judgedWord (forVector text s k) in
         let p = good-l (declared s x (N.local h)) l m ls (vector-scope functions strings text s h x _ sc) (f .1) (search nones) in
         ((p .0, vector-size functions strings text s k), p .1)
     good-l s l h (T.values ns es ls) sc f n =
@@ -316,15 +298,13 @@ module _ (functions strings : ℕ) (text : List ℕ) where
     good-b : (s : Scope) (l : Leavable) (h : ℕ) (cs : Commands) → Scoped functions h s → FineCommands strings cs → inCommands text s l h cs ≡ []
         → FormedB functions strings h (E.commands text s h cs) × LeavesB (l .loop) (l .switch) (l .valof) (E.commands text s h cs)
     good-b s l h T.noCommands sc f n = (tt, tt)
-    good-b s l h (T.andCommand c cs) sc f n =
-        let p = good-c s l h c sc (f .0) (search nones) in
+    good-b s l h (T.andCommand c cs) sc f n = let p = good-c s l h c sc (f .0) (search nones) in
         let q = good-b s l h cs sc (f .1) (search nones) in ((p .0, q .0), (p .1, q .1))
 
     good-s : (s : Scope) (l : Leavable) (h : ℕ) (d : List Label) (cs : Commands) → Scoped functions h s → FineCommands strings cs
         → inCases text s l h d cs ≡ []
         → FormedS functions strings h (E.caseList text s h cs) × LeavesS (l .loop) (l .switch) (l .valof) (E.caseList text s h cs)
     good-s s l h d T.noCommands sc f n = (tt, tt)
-    good-s s l h d (T.andCommand c cs) sc f n =
-        let p = good-case s l h c sc (f .0) (search nones) in
+    good-s s l h d (T.andCommand c cs) sc f n = let p = good-case s l h c sc (f .0) (search nones) in
         let q = good-s s l h (d ++ labelsBefore c) cs sc (f .1) (search nones) in
         ((p .0, q .0, formed-labels functions strings text s h sc (labelsBefore c) (before-fine functions strings text c (f .0))), (p .1, q .1))

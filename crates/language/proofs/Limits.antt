@@ -38,8 +38,7 @@ module _ (limit : ℕ) where
 
   both-reach : {A : Type 0} (memory p k : ℕ) (s : State) {f g : State → Result A} → ((u : State) → Both limit (u .used) (f u) (g u))
       → Both limit (s .used) (reach memory p k s f) (reach limit p k s g)
-  both-reach memory p k s {f} {g} h =
-      let n : ℕ = cond (ltb (s .used) (p + k)) (p + k) (s .used) in
+  both-reach memory p k s {f} {g} h = let n : ℕ = cond (ltb (s .used) (p + k)) (p + k) (s .used) in
       let u : State = record { cells = s .cells; taken = s .taken; output = s .output; steps = s .steps; used = n } in
       let grown : (s .used ≤ n) × (p + k ≤ n) = by-order (s .used) (p + k) (λ l. rw (lt-ltb (s .used) (p + k) l) (omega arith, omega arith)) (λ l.
       rw (le-ltb (s .used) (p + k) l) (omega arith, omega arith)) in
@@ -49,16 +48,15 @@ module _ (limit : ℕ) where
       b-undefined
 
   bounded : (memory : ℕ) → Closed 0 memory limit Bounded
-  bounded memory =
-      record {
-        stops = b-undefined;
-        finishes = λ {A} {s}. b-finished (le-refl (s .used)) (λ l. refl);
-        returns = λ {A} {s}. b-returned (le-refl (s .used)) (λ l. refl);
-        gives = λ {A} {a} {s}. b-ok (le-refl (s .used)) (λ l. refl);
-        changes = λ c b. both-from (omega (arith, c .used)) (λ j. refl) b;
-        reaches = λ p h s k. both-reach memory p h s k;
-        goes-on = λ b m f. both-after b m f;
-      }
+  bounded memory = record {
+    stops = b-undefined;
+    finishes = λ {A} {s}. b-finished (le-refl (s .used)) (λ l. refl);
+    returns = λ {A} {s}. b-returned (le-refl (s .used)) (λ l. refl);
+    gives = λ {A} {a} {s}. b-ok (le-refl (s .used)) (λ l. refl);
+    changes = λ c b. both-from (omega (arith, c .used)) (λ j. refl) b;
+    reaches = λ p h s k. both-reach memory p h s k;
+    goes-on = λ b m f. both-after b m f;
+  }
 
   over-both : {A : Type 0} {n : ℕ} {x y : Result A} {s : State} → Both limit n x y → Over x s → s .used ≤ limit → Over y s
   over-both {s = s} (b-finished m e) byFinish l = rw (e l) byFinish
@@ -85,12 +83,11 @@ module _ (limit : ℕ) where
     both-related (suc n) = in-sem 0 memory limit Bounded (bounded memory) functions place input n n (both-related n)
 
     pub both-sem : (fuel : ℕ) → Agreeing (sem functions place memory input fuel) (sem functions place limit input fuel)
-    both-sem fuel =
-        record {
-          evaluate = λ e p h s. both-related fuel .evaluate e p h s (omega arith);
-          run = λ c p h s. both-related fuel .run c p h s (omega arith);
-          turn = λ l p h s. both-related fuel .turn l p h s (omega arith);
-        }
+    both-sem fuel = record {
+      evaluate = λ e p h s. both-related fuel .evaluate e p h s (omega arith);
+      run = λ c p h s. both-related fuel .run c p h s (omega arith);
+      turn = λ l p h s. both-related fuel .turn l p h s (omega arith);
+    }
 
     pub over-within : (fuel : ℕ) (strings : List (List ℕ)) {s : State} → Over (runWith fuel functions strings place memory input) s → s .used ≤ limit
         → Over (runWith fuel functions strings place limit input) s

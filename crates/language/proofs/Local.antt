@@ -105,8 +105,7 @@ module _ {A : Type 0} where
 
   -- a choice by the symbol here
   pub local-cond : {k : ℕ} (r r′ : Reader A) → Local k r → Local k r′ → (b : ℕ → Bool) → Local k (λ s at. cond (b (kindAt s at)) (r s at) (r′ s at))
-  local-cond r r′ l l′ b =
-      record
+  local-cond r r′ l l′ b = record
       { local = λ {s} {t} g at. rel-cond (b (kindAt s at)) (b (kindAt t at)) (λ h. ap b (kinds-agree g at h)) (l .local g at) (l′ .local g at) }
 
 pub local-bind : {A B : Type 0} {j : ℕ} (r : Reader A) (f : A → Reader B) → Local j r → ((a : A) → Local 0 (f a)) → Local j (r >>= f)
@@ -114,20 +113,16 @@ local-bind r f l m = record { local = λ g at. rel-bind (λ a n h. m a .local g 
 
 pub local-any : Local 1 any
 unfolding any
-local-any =
-    record {
-      local = λ g at.
-          record
-          { ahead = took {next = at + 1} (omega arith); same = λ e. ap (λ (x : Symbol). ok x (at + 1)) (g .agree at (omega (arith, ends-ok e))) };
-    }
+local-any = record {
+  local = λ g at. record
+      { ahead = took {next = at + 1} (omega arith); same = λ e. ap (λ (x : Symbol). ok x (at + 1)) (g .agree at (omega (arith, ends-ok e))) };
+}
 
 pub local-here : Local 0 here
 unfolding here
-local-here =
-    record {
-      local = λ g at.
-          record { ahead = took {next = at} (omega arith); same = λ e. ap (λ (x : Symbol). ok (x .place) at) (g .agree at (ends-ok e)) };
-    }
+local-here = record {
+  local = λ g at. record { ahead = took {next = at} (omega arith); same = λ e. ap (λ (x : Symbol). ok (x .place) at) (g .agree at (ends-ok e)) };
+}
 
 pub local-the : (kind : ℕ) → Local 1 (the kind)
 unfolding the any
@@ -178,8 +173,7 @@ module _ {A : Type 0} (none : A) (begins : ℕ → Bool) (item : Reader (A → A
     unfolding manyUpTo
     each zero m {s} {t} g at h k =
         record { ahead = took {next = at} (omega arith); same = λ e. none-there m t at (kinds-agree g at (ends-ok e) ∙ ended s at (omega arith)) }
-    each (suc n) zero {s} {t} {p} g at h k =
-        let a = fixed (suc n) .local (self s p) at .ahead in
+    each (suc n) zero {s} {t} {p} g at h k = let a = fixed (suc n) .local (self s p) at .ahead in
         record { ahead = a; same = λ e. sym (none-there (suc n) s at (sym (kinds-agree g at (reach a e)) ∙ ended t at (omega arith))) }
     each (suc n) (suc m) g at h k = turn n m g at (λ next q. each n m g next (omega arith) (omega arith))
 
@@ -199,8 +193,7 @@ module _ {A : Type 0} (none : A) (item : Reader (A → A)) (l : Local 0 item) wh
       → ((next : ℕ) → 1 + at ≤ next → Rel 0 p next (moreUpTo n none item s next) (moreUpTo m none item t next))
       → Rel 0 p at (moreUpTo (suc n) none item s at) (moreUpTo (suc m) none item t at)
   unfolding moreUpTo
-  turn-more n m g at f =
-      at-end g at (weaker (rel-bind (λ _ next h. at-end g next (put-before (l .local g next) (λ x q. f x (omega arith))))
+  turn-more n m g at f = at-end g at (weaker (rel-bind (λ _ next h. at-end g next (put-before (l .local g next) (λ x q. f x (omega arith))))
       (local-the K.SEMICOLON .local g at)))
 
   pub fixed-more : (n : ℕ) → Local 0 (moreUpTo n none item)
@@ -218,16 +211,13 @@ module _ {A : Type 0} (none : A) (item : Reader (A → A)) (l : Local 0 item) wh
   unfolding moreUpTo unexpected
   each-more zero m {s} {t} g at h k =
       record { ahead = refused {q = at} (omega arith); same = λ e. none-more m t at (kinds-agree g at (ends-no e) ∙ ended s at (omega arith)) }
-  each-more (suc n) zero {s} {t} {p} g at h k =
-      let a = fixed-more (suc n) .local (self s p) at .ahead in
+  each-more (suc n) zero {s} {t} {p} g at h k = let a = fixed-more (suc n) .local (self s p) at .ahead in
       record { ahead = a; same = λ e. sym (none-more (suc n) s at (sym (kinds-agree g at (reach a e)) ∙ ended t at (omega arith))) }
   each-more (suc n) (suc m) g at h k = turn-more n m g at (λ next q. each-more n m g next (omega arith) (omega arith))
 
   -- item { ; item } [;] $)
   pub local-items : Local 0 (items none item)
   unfolding items
-  local-items =
-      record {
-        local = λ {s} {t} g at.
-            put-before (l .local g at) (λ n _. each-more (length (s .symbols)) (length (t .symbols)) g n (omega arith) (omega arith));
-      }
+  local-items = record {
+    local = λ {s} {t} g at. put-before (l .local g at) (λ n _. each-more (length (s .symbols)) (length (t .symbols)) g n (omega arith) (omega arith));
+  }

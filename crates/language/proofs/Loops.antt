@@ -31,8 +31,7 @@ module _ (list text : List ℕ) where
   semicolonsBy (s ∷ r) = s ∷ afterBy s r
 
   unfoldable pub parsedBy : Read
-  parsedBy =
-      onSymbols (length text)
+  parsedBy = onSymbols (length text)
       (onFault (firstFault (length text) (brackets [] (scan text .symbols)) (scan text .ending)) (semicolonsBy (numbered 0 (scan text .symbols))))
 
 -- the first list as it was in document 01
@@ -92,11 +91,9 @@ apart e = contradiction cc
 without-member : (k x : ℕ) (ks : List ℕ) → member k (without x ks) ≡ cond (eqb k x) false (member k ks)
 unfolding member
 without-member k x [] = by-cases (eqb k x) (λ outcome. rw outcome) (λ outcome. rw outcome)
-without-member k x (j ∷ ks) =
-    by-cases (eqb j x)
+without-member k x (j ∷ ks) = by-cases (eqb j x)
     (λ e. by-cases (eqb k j) (λ f. let g : eqb k x ≡ true = rw (eqb-true k j f) e in rw (e, g) (rw g at (without-member k x ks)))
-    (λ f. rw (e, f) (without-member k x ks)))
-    (λ e. by-cases (eqb k j) (λ f. let g : eqb k x ≡ false = rw (eqb-true k j f) e in rw (e, g) (rw f refl))
+    (λ f. rw (e, f) (without-member k x ks))) (λ e. by-cases (eqb k j) (λ f. let g : eqb k x ≡ false = rw (eqb-true k j f) e in rw (e, g) (rw f refl))
     (λ f. rw e (rw f (without-member k x ks))))
 
 -- one symbol further: `l` where a LOOP stands before it, `n` where the wider list has what stands before, `b` where it begins a line,
@@ -124,8 +121,7 @@ module _ (text : List ℕ) where
       → Rest (eqb (before .kind) K.LOOP) (afterBy formerly text before ss) (afterBy firsts text before ss)
   unfolding afterBy bracketAfter beginsLine
   widened-after before [] h = both-end
-  widened-after before (s ∷ r) h =
-      let k : (bracketNext text before s ≡ false) × (bracketAfter text s r ≡ false) = either-false _ _ h in
+  widened-after before (s ∷ r) h = let k : (bracketNext text before s ≡ false) × (bracketAfter text s r ≡ false) = either-false _ _ h in
       further s (eqb (before .kind) K.LOOP) (member (before .kind) firsts) (beginsLine (s .kind)) (eqb (s .kind) K.OPEN) (linesDiffer text before s)
       (without-member (before .kind) K.LOOP firsts) (without-member (s .kind) K.OPEN seconds) (k .0) (widened-after s r (k .1))
 

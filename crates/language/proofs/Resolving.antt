@@ -56,8 +56,7 @@ lookup-known f h text (declared s m w) n p = by-cond (KnownFound f h) (sameName 
 pub declared-all : (f : ℕ) (s : Scope) (h : ℕ) (ns : List Name) → Scoped f h s → Scoped f (h + length ns) (declareAll s h ns)
 unfolding declareAll Scoped
 declared-all f s h [] p = scoped-up f s (omega arith) p
-declared-all f s h (n ∷ ns) p =
-    let z : h + 1 + length ns ≡ h + suc (length ns) = omega arith in
+declared-all f s h (n ∷ ns) p = let z : h + 1 + length ns ≡ h + suc (length ns) = omega arith in
     rw z at (declared-all f (declared s n (N.local h)) (h + 1) ns (omega arith, scoped-up f s (omega arith) p))
 
 -- ---- constants
@@ -123,8 +122,7 @@ module _ (functions strings : ℕ) (text : List ℕ) where
 
   formed-target : (h : ℕ) (e : Expr) → GE (h + 1) e → FormedT functions strings h (targetOf (sideOf e))
   unfolding FormedE
-  formed-target h e p =
-      let z : h + 1 + 1 ≡ h + 2 = omega arith in
+  formed-target h e p = let z : h + 1 + 1 ≡ h + 2 = omega arith in
       by-side (λ e x. GE (h + 1) e → FormedT functions strings h (targetOf x)) (λ _ p. p) (λ _ p. p) (λ _ p. p) (λ _ _ p. (p .0, rw z at (p .1)))
       (λ _ _. omega arith) e p
 
@@ -151,8 +149,7 @@ module _ (functions strings : ℕ) (text : List ℕ) where
       → FormedL functions strings h (valuesBefore es ls)
   unfolding FormedE H.count
   formed-values h R.none ls p q = rw (add-zero h) at q
-  formed-values h (R.and e es) ls p q =
-      let z : h + suc (H.count es) ≡ h + 1 + H.count es = omega arith in
+  formed-values h (R.and e es) ls p q = let z : h + suc (H.count es) ≡ h + 1 + H.count es = omega arith in
       (p .0, formed-values (h + 1) es ls (p .1) (rw z at q))
 
   pub formed-labels : (s : Scope) (h : ℕ) → Scoped functions h s → (ls : List Label) → FineLabels ls → FormedCases (labelsOf text s ls)
@@ -187,8 +184,7 @@ module _ (functions strings : ℕ) (text : List ℕ) where
   unfolding H.heightWith E.heightAfter E.locals FineLocals
   height-same s h T.noLocals f = refl
   height-same s h (T.vector n k ls) f = height-same (declared s n (N.local h)) (h + 2 + judgedWord (forVector text s k)) ls (f .1)
-  height-same s h (T.values ns es ls) f =
-      let z : H.count (E.expressions text s h es) ≡ length ns = count-same s h es ∙ f .2 in
+  height-same s h (T.values ns es ls) f = let z : H.count (E.expressions text s h es) ≡ length ns = count-same s h es ∙ f .2 in
       height-values h (E.expressions text s h es) _ ∙ rw z (height-same (declareAll s h ns) (h + length ns) ls (f .1))
 
   pub scope-after : (s : Scope) (h : ℕ) → Scoped functions h s → (ls : T.Locals)

@@ -162,11 +162,9 @@ module _ (first memory limit : ℕ) (T : Relation) (closed : Closed first memory
 
   module _ (q r : Sem) (parts : Related first T q r) where
     body : (b : Body) (base h : ℕ) (s : State) → first ≤ base → T _ s (runBody q b base h s) (runBody r b base h s)
-    body (R.expression e) base h s l =
-        rw (function-after base (q .evaluate e base h s), function-after base (r .evaluate e base h s))
+    body (R.expression e) base h s l = rw (function-after base (q .evaluate e base h s), function-after base (r .evaluate e base h s))
         (goes-on (parts .evaluate e base h s l) (λ t. stops) (λ v t. changes (forgotten base l) gives))
-    body (R.routine c) base h s l =
-        rw (routine-after base (q .run c base h s), routine-after base (r .run c base h s))
+    body (R.routine c) base h s l = rw (routine-after base (q .run c base h s), routine-after base (r .run c base h s))
         (goes-on (parts .run c base h s l) (λ t. changes (forgotten base l) gives) (ends base l))
 
     tests : (e : Expr) (p h : ℕ) (s : State) → first ≤ p → {f g : Bool → State → Result Flow} → ((b : Bool) (t : State) → T _ t (f b t) (g b t))
@@ -194,8 +192,7 @@ module _ (first memory limit : ℕ) (T : Relation) (closed : Closed first memory
     in-two : (a b : Expr) (p h : ℕ) (s : State) → first ≤ p → {f g : ℕ → ℕ → State → Result Value}
         → ((v w : ℕ) (t : State) → T _ t (f v w t) (g v w t))
         → T _ s (two memory q a b p h s f) (two limit r a b p h s g)
-    in-two a b p h s l k =
-        binds (parts .evaluate a p h s l) (λ v t. reaches p (h + 1) t (λ u.
+    in-two a b p h s l k = binds (parts .evaluate a p h s l) (λ v t. reaches p (h + 1) t (λ u.
         binds (parts .evaluate b p (h + 1) u l) (λ w x. demands v (λ m. demands w (λ n. k m n x)))))
 
     in-assigned : (t : Target) (v : Value) (p h : ℕ) (s : State) → first ≤ p → {f g : State → Result Flow} → ((u : State) → T _ u (f u) (g u))
@@ -205,10 +202,7 @@ module _ (first memory limit : ℕ) (T : Relation) (closed : Closed first memory
     in-assigned (R.toGlobal n) v p h s l m = demands v (λ w. stores (16 + n) w m)
     in-assigned (R.toContents e) v p h s l m =
         reaches p (h + 1) s (λ t. binds (parts .evaluate e p (h + 1) t l) (λ a u. demands v (λ w. demands a (λ b. stores b w m))))
-    in-assigned (R.toIndex a b) v p h s l m =
-        reaches p (h + 1) s (λ t.
-        binds (parts .evaluate a p (h + 1) t l) (λ x u.
-        reaches p (h + 2) u (λ y.
+    in-assigned (R.toIndex a b) v p h s l m = reaches p (h + 1) s (λ t. binds (parts .evaluate a p (h + 1) t l) (λ x u. reaches p (h + 2) u (λ y.
         binds (parts .evaluate b p (h + 2) y l) (λ z k. demands v (λ w. demands x (λ i. demands z (λ j. stores (add i j) w m)))))))
 
     in-pairs : (ps : Pairs) (p h : ℕ) (s : State) → first ≤ p → T _ s (assignedAll memory q ps p h s) (assignedAll limit r ps p h s)
@@ -220,11 +214,9 @@ module _ (first memory limit : ℕ) (T : Relation) (closed : Closed first memory
         → T _ s (declared memory q ls p h s f) (declared limit r ls p h s g)
     unfolding declared
     in-declared R.noLocals p h s l m = m s
-    in-declared (R.vector n ls) p h s l m =
-        changes stepped (changes (vector (p + h + 1) n (omega arith))
+    in-declared (R.vector n ls) p h s l m = changes stepped (changes (vector (p + h + 1) n (omega arith))
         (changes (stored (p + h) (p + h + 1)) (reaches p (h + 2 + n) _ (λ t. in-declared ls p (h + 2 + n) t l m))))
-    in-declared (R.value e ls) p h s l m =
-        binds (parts .evaluate e p h s l) (λ v t.
+    in-declared (R.value e ls) p h s l m = binds (parts .evaluate e p h s l) (λ v t.
         demands v (λ w. changes stepped (changes (stored (p + h) w) (reaches p (h + 1) _ (λ u. in-declared ls p (h + 1) u l m)))))
 
     pub in-executed : (c : Cmd) (p h : ℕ) (s : State) → first ≤ p → T _ s (executed memory q c p h s) (executed limit r c p h s)
@@ -238,8 +230,7 @@ module _ (first memory limit : ℕ) (T : Relation) (closed : Closed first memory
     in-executed (R.while sense e c) p h s l = changes stepped (parts .turn (whiling sense e c) p h (step s) l)
     in-executed (R.repeat c) p h s l = parts .turn (repeating c) p h s l
     in-executed (R.repeatWhile sense c e) p h s l = parts .turn (repeatingWhile sense c e) p h s l
-    in-executed (R.for from to by c) p h s l =
-        changes stepped (binds (parts .evaluate from p h (step s) l) (λ v t.
+    in-executed (R.for from to by c) p h s l = changes stepped (binds (parts .evaluate from p h (step s) l) (λ v t.
         demands v (λ i. changes stepped (changes (stored (p + h) i) (reaches p (h + 1) _ (λ u.
         binds (parts .evaluate to p (h + 1) u l) (λ w x.
         demands w (λ m. reaches p (h + 2) x (λ y. leaves (p + h) (omega arith) (parts .turn (counting m by c) p h y l))))))))))
@@ -256,19 +247,14 @@ module _ (first memory limit : ℕ) (T : Relation) (closed : Closed first memory
 
     pub in-turned : (o : Loop) (p h : ℕ) (s : State) → first ≤ p → T _ s (turned q o p h s) (turned r o p h s)
     unfolding turned
-    in-turned (whiling sense e c) p h s l =
-        tests e p h s l (λ b t.
+    in-turned (whiling sense e c) p h s l = tests e p h s l (λ b t.
         chooses (same sense b) (changes stepped (binds (parts .run c p h (step t) l) (λ f u.
         goes-around f u (λ w. parts .turn (whiling sense e c) p h w l)))) (gives {a = normal}))
     in-turned (repeating c) p h s l =
         changes stepped (binds (parts .run c p h (step s) l) (λ f u. goes-around f u (λ w. parts .turn (repeating c) p h w l)))
-    in-turned (repeatingWhile sense c e) p h s l =
-        changes stepped (binds (parts .run c p h (step s) l) (λ f u.
+    in-turned (repeatingWhile sense c e) p h s l = changes stepped (binds (parts .run c p h (step s) l) (λ f u.
         goes-around f u (λ w. tests e p h w l (λ b x. chooses (same sense b) (parts .turn (repeatingWhile sense c e) p h x l) (gives {a = normal})))))
-    in-turned (counting to by c) p h s l =
-        binds (reads (s .cells (p + h)) s) (λ v t.
-        demands v (λ i.
-        chooses (goesOn by i to)
+    in-turned (counting to by c) p h s l = binds (reads (s .cells (p + h)) s) (λ v t. demands v (λ i. chooses (goesOn by i to)
         (changes stepped (binds (parts .run c p (h + 2) (step t) l) (λ f u.
         goes-around f u (λ w.
         binds (reads (w .cells (p + h)) w) (λ x y. demands x (λ j. stores (p + h) (add j by) (λ z. parts .turn (counting to by c) p h z l)))))))
@@ -278,8 +264,7 @@ module _ (first memory limit : ℕ) (T : Relation) (closed : Closed first memory
       in-enter : (x : Option ℕ) (base : ℕ) (vs : List ℕ) (s : State) → first ≤ base
           → T _ s (enterAt functions memory q x base vs s) (enterAt functions limit r x base vs s)
       in-enter none base vs s l = stops
-      in-enter (some k) base vs s l =
-          reaches base (2 + getD functions k noFun .parameters) s (λ t.
+      in-enter (some k) base vs s l = reaches base (2 + getD functions k noFun .parameters) s (λ t.
           changes (given base (getD functions k noFun .parameters) vs l)
           (body (getD functions k noFun .body) base (2 + getD functions k noFun .parameters) _ l))
 
@@ -287,8 +272,7 @@ module _ (first memory limit : ℕ) (T : Relation) (closed : Closed first memory
         pub in-called : (v base : ℕ) (vs : List ℕ) (s : State) → first ≤ base
             → T _ s (called functions place memory input q v base vs s) (called functions place limit input r v base vs s)
         unfolding called
-        in-called v base vs s l =
-            chooses (eqb v 3) (reaches base 2 s (receives input))
+        in-called v base vs s l = chooses (eqb v 3) (reaches base 2 s (receives input))
             (chooses (eqb v 5) (reaches base 3 s (sends (nth vs 0))) (in-enter (positionOf v (place .entries) 0) base vs s l))
 
         pub in-evaluated : (e : Expr) (p h : ℕ) (s : State) → first ≤ p
@@ -307,9 +291,7 @@ module _ (first memory limit : ℕ) (T : Relation) (closed : Closed first memory
         in-evaluated (R.index a b) p h s l = in-two a b p h s l (λ v w t. reads (t .cells (add v w)) t)
         in-evaluated (R.unary o e) p h s l = binds (parts .evaluate e p h s l) (λ v t. demands v (λ w. gives))
         in-evaluated (R.binary o a b) p h s l = in-two a b p h s l (λ v w t. or-undefined (applyDyadic o v w) t)
-        in-evaluated (R.call e es) p h s l =
-            reaches p (h + 2) s (λ t.
-            in-arguments es p (h + 2) t l (λ vs u.
+        in-evaluated (R.call e es) p h s l = reaches p (h + 2) s (λ t. in-arguments es p (h + 2) t l (λ vs u.
             binds (parts .evaluate e p (h + 2 + count es) u l) (λ v w.
             demands-all vs [] (λ ws. demands v (λ a. in-called a (p + h) ws w (omega arith))))))
         in-evaluated (R.valof c) p h s l = binds (parts .run c p h s l) value
@@ -320,9 +302,8 @@ module _ (first memory limit : ℕ) (T : Relation) (closed : Closed first memory
       → Related first T (sem functions place memory input n) (sem functions place limit input m)
       → Related first T (sem functions place memory input (suc n)) (sem functions place limit input (suc m))
   unfolding sem
-  in-sem functions place input n m parts =
-      record {
-        evaluate = λ e p h s l. changes stepped (in-evaluated _ _ parts functions place input e p h (step s) l);
-        run = in-executed _ _ parts;
-        turn = in-turned _ _ parts;
-      }
+  in-sem functions place input n m parts = record {
+    evaluate = λ e p h s l. changes stepped (in-evaluated _ _ parts functions place input e p h (step s) l);
+    run = in-executed _ _ parts;
+    turn = in-turned _ _ parts;
+  }

@@ -38,8 +38,7 @@ module _ (text : List ℕ) where
   on-element : (place : ℕ) (bs : List ℕ) (e : Element) (more : ℕ → Scan) → bs ≡ drop place text → place + length bs ≤ length text → KnownElement bs e
       → ((n : ℕ) → AllWords text (more n .symbols)) → AllWords text (onElement place e more .symbols)
   unfolding AllWords
-  on-element place bs (symbol kind value width) more q l (a-symbol k) h =
-      let z = next-drop text place q in
+  on-element place bs (symbol kind value width) more q l (a-symbol k) h = let z = next-drop text place q in
       (record { number = k .number; name = λ e. omega (arith, k .name e); closes = λ e. rw z at (k .closes e) }, h (width - 1))
   on-element place bs (gap width) more q l k h = h (width - 1)
   on-element place bs (wrong number offset) more q l k h = tt
@@ -127,8 +126,7 @@ kept-both k l = record {
 with-number : (text : List ℕ) (n m : ℕ) (x : Symbol) (xs ys : List Symbol) → eqb (x .kind) STRING ≡ true → n < m → Kept text m xs ys
     → Kept text m (x ∷ xs) (withValue n x ∷ ys)
 unfolding AllWords Below countStrings cost stringsAmong
-with-number text n m x xs ys e l k =
-    let z : x .kind ≡ STRING = eqb-true _ _ e in
+with-number text n m x xs ys e l k = let z : x .kind ≡ STRING = eqb-true _ _ e in
     record {
       words = λ f. (record { number = λ q. absurd (omega arith); name = λ q. absurd (omega arith); closes = f .0 .closes }, k .words (f .1));
       below = ((λ q. l), k .below);
@@ -140,9 +138,7 @@ with-number text n m x xs ys e l k =
 numbered-kept : (text : List ℕ) (n m : ℕ) (xs : List Symbol) → n + countStrings xs ≤ m → Kept text m xs (numbered n xs)
 unfolding numbered countStrings
 numbered-kept text n m [] h = kept-none text m
-numbered-kept text n m (x ∷ xs) h =
-    either (Kept text m (x ∷ xs)) (eqb (x .kind) STRING)
-    (λ e. let l : n + suc (countStrings xs) ≤ m = rw e at h in
+numbered-kept text n m (x ∷ xs) h = either (Kept text m (x ∷ xs)) (eqb (x .kind) STRING) (λ e. let l : n + suc (countStrings xs) ≤ m = rw e at h in
     with-number text n m x xs _ e (omega arith) (numbered-kept text (suc n) m xs (omega arith)))
     (λ e. one-more text m x xs _ (λ q. absurd (eqb-false _ _ e q)) (numbered-kept text n m xs (rw e at h)))
 
@@ -160,8 +156,7 @@ with-semicolon text m x xs ys k true = record {
 kept-after : (m : ℕ) (text : List ℕ) (before : Symbol) (xs : List Symbol) → Below m xs → Kept text m xs (semicolonsAfter text before xs)
 unfolding semicolonsAfter AllWords Below countStrings cost
 kept-after m text before [] g = kept-none text m
-kept-after m text before (x ∷ xs) g =
-    with-semicolon text m x (x ∷ xs) (x ∷ semicolonsAfter text x xs)
+kept-after m text before (x ∷ xs) g = with-semicolon text m x (x ∷ xs) (x ∷ semicolonsAfter text x xs)
     (one-more text m x xs (semicolonsAfter text x xs) (g .0) (kept-after m text x xs (g .1))) (gains text before x)
 
 kept-all : (m : ℕ) (text : List ℕ) (xs : List Symbol) → Below m xs → Kept text m xs (semicolons text xs)
@@ -172,8 +167,7 @@ kept-all m text (x ∷ xs) g = one-more text m x xs (semicolonsAfter text x xs) 
 strings-count : (text : List ℕ) (xs : List Symbol) → length (stringsAmong text xs) ≡ countStrings xs
 unfolding stringsAmong countStrings
 strings-count text [] = refl
-strings-count text (x ∷ xs) =
-    by-cases (eqb (x .kind) STRING) (λ t. rw t (ap suc (strings-count text xs))) (λ t. rw t (strings-count text xs))
+strings-count text (x ∷ xs) = by-cases (eqb (x .kind) STRING) (λ t. rw t (ap suc (strings-count text xs))) (λ t. rw t (strings-count text xs))
 
 -- ---- by position
 
@@ -233,8 +227,7 @@ cost-most loops (x ∷ xs) (suc n) = omega (arith, cost-most loops xs n)
 pub cost-length : (xs : List Symbol) → cost 1 xs ≤ length xs
 unfolding cost
 cost-length [] = omega arith
-cost-length (x ∷ xs) =
-    let one : weight 1 (x .kind) ≤ 1
+cost-length (x ∷ xs) = let one : weight 1 (x .kind) ≤ 1
     = by-cond (λ n. n ≤ 1) (eqb (x .kind) SEMICOLON) (omega arith) (by-cond (λ n. n ≤ 1) (isRepeat (x .kind)) (omega arith) (omega arith)) in
     omega (arith, cost-length xs)
 
@@ -247,8 +240,7 @@ abbrev pub sourceNow : List ℕ → Source
 sourceNow text = record { symbols = symbolsNow text; size = length text }
 
 kept-now : (text : List ℕ) → Kept text (countStrings (scan text .symbols)) (scan text .symbols) (symbolsNow text)
-kept-now text =
-    let k = numbered-kept text 0 (countStrings (scan text .symbols)) (scan text .symbols) (omega arith) in
+kept-now text = let k = numbered-kept text 0 (countStrings (scan text .symbols)) (scan text .symbols) (omega arith) in
     kept-both k (kept-all _ text _ (k .below))
 
 pub words-now : (text : List ℕ) → AllWords text (symbolsNow text)

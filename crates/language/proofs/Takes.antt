@@ -77,8 +77,7 @@ module _ {loops : ℕ} {s : Source} {strings : ℕ} {c : ℕ → ℕ} (k : Count
 
   pub a-name : (at : ℕ) → Answer (Written k (NameHere s at) (λ _. 1) at) (aName s at)
   unfolding aName unexpected
-  a-name at =
-      either (is NAME s at)
+  a-name at = either (is NAME s at)
       (λ e. got (record { stands-here = refl; fine = k .names at (eqb-true _ _ e) }) (omega (arith, solid at NAME (eqb-true _ _ e) (omega arith))))
       (λ _. refusal)
 
@@ -120,6 +119,5 @@ module _ {loops : ℕ} {s : Source} {strings : ℕ} {c : ℕ → ℕ} (k : Count
 
       -- up to a closing bracket, which is counted
       pub close-of : (at : ℕ) → Answer (Written k P (λ b. suc (W b)) at) (upToClose none item s at)
-      close-of =
-          Gives.close-of s (Written k P W) none nil item skip g (Written k P (λ b. suc (W b)))
+      close-of = Gives.close-of s (Written k P W) none nil item skip g (Written k P (λ b. suc (W b)))
           (λ at a m e i. record { has = i .has; taken = omega (arith, i .taken, solid m CLOSE e (omega arith)) })

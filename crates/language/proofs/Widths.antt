@@ -22,8 +22,7 @@ module _ (text : List ℕ) where
   on-element : (place b : ℕ) (bs : List ℕ) (e : Element) (more : ℕ → Scan) → b ∷ bs ≡ drop place text → KnownElement (b ∷ bs) e
       → ((k : ℕ) → covers (more k .symbols) ≤ length bs - k) → covers (onElement place e more .symbols) ≤ suc (length bs)
   unfolding covers
-  on-element place b bs (symbol kind value width) more q (a-symbol k) g =
-      let z : bs ≡ drop (suc place) text = next-drop text place q in
+  on-element place b bs (symbol kind value width) more q (a-symbol k) g = let z : bs ≡ drop (suc place) text = next-drop text place q in
       rw (← z) (omega (arith, g (width - 1), k .wide))
   on-element place b bs (gap width) more q f g = omega (arith, g (width - 1))
   on-element place b bs (wrong number offset) more q f g = omega arith
@@ -46,8 +45,7 @@ module _ (text : List ℕ) where
   count-covers : (xs : List Symbol) → cost 3 xs + countStrings xs ≤ covers xs
   unfolding cost countStrings covers isRepeat member
   count-covers [] = omega arith
-  count-covers (x ∷ xs) =
-      by-equal (x .kind) STRING (λ q. rw q (omega (arith, count-covers xs))) (λ q.
+  count-covers (x ∷ xs) = by-equal (x .kind) STRING (λ q. rw q (omega (arith, count-covers xs))) (λ q.
       let w : weight 3 (x .kind) ≤ cond (isRepeat (x .kind)) 3 1
       = by-cond (λ n. n ≤ cond (isRepeat (x .kind)) 3 1) (eqb (x .kind) SEMICOLON) (omega arith) (omega arith) in
       rw (ne-eqb (x .kind) STRING q) (omega (arith, count-covers xs)))

@@ -20,8 +20,7 @@ clearing-starts s from = record {
 
 module _ {s₀ : List ℕ} {from : ℕ} {s : List ℕ} {i : ℕ} (c : Clearing s₀ from s i) where
   pub clearing-goes-on : i < length s → Clearing s₀ from (set s i 0) (i + 1)
-  clearing-goes-on k =
-      let d : drop i s₀ ≡ getD s₀ i 0 ∷ drop (i + 1) s₀ = drop-cons s₀ i 0 (omega arith) ∙ rw add-one in
+  clearing-goes-on k = let d : drop i s₀ ≡ getD s₀ i 0 ∷ drop (i + 1) s₀ = drop-cons s₀ i 0 (omega arith) ∙ rw add-one in
       let before = take from s₀ ++ replicate (i - from) 0 in
       let l : length before ≡ i = omega (
         arith,
@@ -39,8 +38,7 @@ module _ {s₀ : List ℕ} {from : ℕ} {s : List ℕ} {i : ℕ} (c : Clearing s
       }
 
   pub clearing-ends : length s ≤ i → s ≡ take from s₀ ++ replicate (length s₀ - from) 0
-  clearing-ends k =
-      let past : length s₀ ≤ i = omega arith in let z : i - from ≡ length s₀ - from = omega arith in
+  clearing-ends k = let past : length s₀ ≤ i = omega arith in let z : i - from ≡ length s₀ - from = omega arith in
       c .zeros ∙ rw (drop-of-length-le s₀ past, append-nil, z)
 
 -- from the first on

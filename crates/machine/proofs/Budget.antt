@@ -9,8 +9,7 @@ use Rattle.machine.specs.Run.{Outcome, after, onResult, steps, resume, c
 use Rattle.machine.proofs.Shape.{Shape, quiet, one-more, ends, halts, Quiet, OneMore, shape}
 
 after-carried : (o : Outcome) (more : State → Outcome) → after 1 (carriedOn o more) ≡ carriedOn (after 1 o) more
-after-carried o more =
-    let r = more (o .state) in
+after-carried o more = let r = more (o .state) in
     let z : 1 + (o .count + r .count) ≡ 1 + o .count + r .count = omega arith in
     by-cases (eqb (o .stop) 31) (λ e. rw e (λ i. record { stop = r .stop; count = z i; state = r .state })) (λ e. rw e refl)
 
@@ -23,12 +22,10 @@ result-carried s (halts {k = k} l) f g h e = rw (ne-eqb k 31 (λ z. absurd (omeg
 
 pub steps-add : (input : List ℕ) (n m : ℕ) (s : State) → steps input (n + m) s ≡ carriedOn (steps input n s) (λ t. steps input m t)
 unfolding steps
-steps-add input zero m s =
-    let e : zero + m ≡ m = omega arith in
+steps-add input zero m s = let e : zero + m ≡ m = omega arith in
     let z : steps input m s .count ≡ 0 + steps input m s .count = omega arith in
     rw e (λ i. record { stop = steps input m s .stop; count = z i; state = steps input m s .state })
-steps-add input (suc n) m s =
-    let e : suc n + m ≡ suc (n + m) = omega arith in
+steps-add input (suc n) m s = let e : suc n + m ≡ suc (n + m) = omega arith in
     rw e (result-carried s (shape input s) (λ t. steps input (n + m) t) (λ t. steps input n t) (λ t. steps input m t) (λ u. steps-add input n m u))
 
 -- ---- output only grows
@@ -46,30 +43,27 @@ pub grows-not : (s : State) → Grows s s
 grows-not s = record { memory = refl; room = refl; place = le-refl (s .regs .written); kept = λ i h. refl; held = λ i h. refl; within = λ h. h }
 
 pub grows-on : {s t u : State} → Grows s t → Grows t u → Grows s u
-grows-on g h =
-    record {
-      memory = h .memory ∙ g .memory;
-      room = h .room ∙ g .room;
-      place = le-trans (g .place) (h .place);
-      kept = λ i l. h .kept i (lt-of-lt-of-le l (g .place)) ∙ g .kept i l;
-      held = λ i l. h .held i l ∙ g .held i (le-trans (h .place) l);
-      within = λ l. let a = g .within l in let e = g .room in let b = h .within (omega arith) in omega arith;
-    }
+grows-on g h = record {
+  memory = h .memory ∙ g .memory;
+  room = h .room ∙ g .room;
+  place = le-trans (g .place) (h .place);
+  kept = λ i l. h .kept i (lt-of-lt-of-le l (g .place)) ∙ g .kept i l;
+  held = λ i l. h .held i l ∙ g .held i (le-trans (h .place) l);
+  within = λ l. let a = g .within l in let e = g .room in let b = h .within (omega arith) in omega arith;
+}
 
 grows-quiet : {s t : State} → Quiet s t → Grows s t
-grows-quiet {s} {t} q =
-    record {
-      memory = q .memory;
-      room = ap length (q .output);
-      place = let e = q .place in omega arith;
-      kept = λ i l. ap (λ (o : List ℕ). getD o i 0) (q .output);
-      held = λ i l. ap (λ (o : List ℕ). getD o i 0) (q .output);
-      within = λ l. let e = q .place in omega arith;
-    }
+grows-quiet {s} {t} q = record {
+  memory = q .memory;
+  room = ap length (q .output);
+  place = let e = q .place in omega arith;
+  kept = λ i l. ap (λ (o : List ℕ). getD o i 0) (q .output);
+  held = λ i l. ap (λ (o : List ℕ). getD o i 0) (q .output);
+  within = λ l. let e = q .place in omega arith;
+}
 
 grows-one : {s t : State} → OneMore s t → Grows s t
-grows-one {s} {t} q =
-    let w = s .regs .written in
+grows-one {s} {t} q = let w = s .regs .written in
     let p = q .place in
     record {
       memory = q .memory;
@@ -97,8 +91,7 @@ grows-carried o f h = by-cases (eqb (o .stop) 31) (λ e. rw e h) (λ e. rw e (gr
 
 -- a smaller budget writes a beginning of what a larger one writes
 pub budget-beginning : (input : List ℕ) {n n′ : ℕ} (s : State) → n ≤ n′ → Grows (steps input n s .state) (steps input n′ s .state)
-budget-beginning input {n} {n′} s h =
-    let e : n′ ≡ n + (n′ - n) = omega arith in
+budget-beginning input {n} {n′} s h = let e : n′ ≡ n + (n′ - n) = omega arith in
     rw (e, steps-add input n (n′ - n) s) (grows-carried (steps input n s) (λ t. steps input (n′ - n) t)
     (steps-grow input (n′ - n) (steps input n s .state)))
 

@@ -20,8 +20,7 @@ image ws = ws ++ replicate (512 - length ws) 0
 
 -- words 0 to 7 of every image, START in global 1 at 416, and from there L65 X28 X4: it writes A and returns
 letter : List ℕ
-letter =
-    5121 ∷ 49154 ∷ 57366 ∷ 57371 ∷ 57348 ∷ 6146 ∷ 57372 ∷ 57348 ∷
+letter = 5121 ∷ 49154 ∷ 57366 ∷ 57371 ∷ 57348 ∷ 6146 ∷ 57372 ∷ 57348 ∷
     (replicate 9 0 ++ (416 ∷ (replicate 398 0 ++ (65 ∷ 57372 ∷ 57348 ∷ replicate 93 0))))
 
 -- L200; A-1; T1; X22: two hundred turns of two instructions
@@ -40,19 +39,15 @@ ran budget m = run 100 m [] (7 ∷ []) budget
 abbrev end-table : Table (ℕ × List ℕ) (ℕ × ℕ)
 end-table =
     -- finished: six instructions; two hundred turns
-    (100, letter) gives (30, 6) ∷
-    (1000, countdown) gives (30, 402) ∷
+    (100, letter) gives (30, 6) ∷ (1000, countdown) gives (30, 402) ∷
     -- 31: the budget is over; the jump at 3 is not done
     (3, countdown) gives (31, 3) ∷
     -- 32: L600 I, an operand past the memory; C past the memory at the next fetch, the jump done and counted
-    (9, image (4608 ∷ 600 ∷ [])) gives (32, 0) ∷
-    (9, image (25088 ∷ 600 ∷ [])) gives (32, 1) ∷
+    (9, image (4608 ∷ 600 ∷ [])) gives (32, 0) ∷ (9, image (25088 ∷ 600 ∷ [])) gives (32, 1) ∷
     -- 32: K411 stores at 511 and 512, so at neither
     (9, image (49563 ∷ [])) gives (32, 0) ∷
     -- 33: 0 / 0; 34: X20; 35: a second byte
-    (9, image (57350 ∷ [])) gives (33, 0) ∷
-    (9, image (57364 ∷ [])) gives (34, 0) ∷
-    (9, image (65 ∷ 57372 ∷ 57372 ∷ [])) gives (35, 2) ∷
+    (9, image (57350 ∷ [])) gives (33, 0) ∷ (9, image (57364 ∷ [])) gives (34, 0) ∷ (9, image (65 ∷ 57372 ∷ 57372 ∷ [])) gives (35, 2) ∷
     -- 24: memory of 511 words; nothing changed
     (9, replicate 511 0) gives (24, 0) ∷ []
 
@@ -102,10 +97,8 @@ store-table =
     -- S300 and X22: the finish is done, and stores nothing
     (9, image (8492 ∷ 57366 ∷ [])) gives nothing ∷
     -- S300, and an instruction that is not done: X20, X6 by zero, a second S past the memory, half a K
-    (9, image (8492 ∷ 57364 ∷ [])) gives (true, 300, 1) ∷
-    (9, image (8492 ∷ 57350 ∷ [])) gives (true, 300, 1) ∷
-    (9, image (8492 ∷ 8704 ∷ 600 ∷ [])) gives (true, 300, 1) ∷
-    (9, image (8492 ∷ 49563 ∷ [])) gives (true, 300, 1) ∷ []
+    (9, image (8492 ∷ 57364 ∷ [])) gives (true, 300, 1) ∷ (9, image (8492 ∷ 57350 ∷ [])) gives (true, 300, 1) ∷
+    (9, image (8492 ∷ 8704 ∷ 600 ∷ [])) gives (true, 300, 1) ∷ (9, image (8492 ∷ 49563 ∷ [])) gives (true, 300, 1) ∷ []
 
 stores : Each (λ g. said (ran (g .0) (g .1))) store-table
 unfolding image letter storing ran said nothing value wordOf mul quot rem below shl shr read write fetch indirected returned combined search switched
@@ -125,8 +118,7 @@ unchanged-count = refl
 
 -- registers at the start, with those places in input and output
 placed : (taken written : ℕ) → Registers
-placed taken written =
-    record { a = 0; b = 0; c = 0; p = 100; g = 16; taken = taken; written = written; stored = false; from = 0; words = 0 }
+placed taken written = record { a = 0; b = 0; c = 0; p = 100; g = 16; taken = taken; written = written; stored = false; from = 0; words = 0 }
 
 -- L65; X27; X28, from those places, with an input of two bytes and one byte of room that holds 7
 from-places : (taken written budget : ℕ) → Outcome

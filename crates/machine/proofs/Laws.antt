@@ -46,8 +46,7 @@ left-registers s = elim [ done t ↦ refl | finished t ↦ refl | stopped k ↦ 
 
 pub steps-by : (s : State) (t : StepResult) {d : D.StepResult} {m o : List ℕ} → d ≡ asResult t → m ≡ left s t .mem → o ≡ left s t .out
     → Steps s t d m o
-steps-by s t e f g =
-    record { answers = e; stops = ap numberOf e; leaves = ap (registersOf (s .regs)) e ∙ left-registers s t; stores = f; writes = g }
+steps-by s t e f g = record { answers = e; stops = ap numberOf e; leaves = ap (registersOf (s .regs)) e ∙ left-registers s t; stores = f; writes = g }
 
 pub stepped : {s : State} {o : Out State} {r : Registers} {m out : List ℕ} → o ≡ ok (at r m out) → {r′ : Registers} → r′ ≡ r
     → Steps s (resultOf o) (T.Done r′) m out

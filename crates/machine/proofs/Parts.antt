@@ -32,8 +32,7 @@ carried-other o more e = simp (ne-eqb _ _ e)
 
 pub two-parts : (input : List ℕ) (n m : ℕ) (s : State)
     → TwoParts (resume input (n + m) s) (resume input n s) (resume input m (resume input n s .state))
-two-parts input n m s =
-    let o = resume input n s in
+two-parts input n m s = let o = resume input n s in
     let more : State → Outcome = λ t. resume input m t in
     let e = resume-add input n m s in
     record {
@@ -78,8 +77,7 @@ steps-count input (suc n) s = counts-result s (step input s) n (λ t. steps inpu
 
 pub resume-count : (input : List ℕ) (n : ℕ) (s : State) → resume input n s .count ≤ n
 unfolding resume
-resume-count input n s =
-    by-cases (leb 512 (length (s .mem)) && leb (length (s .mem)) 32768) (λ e. rw e (steps-count input n s))
+resume-count input n s = by-cases (leb 512 (length (s .mem)) && leb (length (s .mem)) 32768) (λ e. rw e (steps-count input n s))
     (λ e. rw e (omega arith))
 
 -- ---- `allowed`
@@ -91,8 +89,7 @@ pub allowed-left : (count m : ℕ) → largest - count < m → largest - count �
 allowed-left count m h = simp (lt-leb m (largest - count) h)
 
 allowed-fits : (count m : ℕ) → count ≤ largest → count + allowed count m ≤ largest
-allowed-fits count m l =
-    by-cases (leb m (largest - count)) (λ e. let h = leb-true m (largest - count) e in rw e (omega arith))
+allowed-fits count m l = by-cases (leb m (largest - count)) (λ e. let h = leb-true m (largest - count) e in rw e (omega arith))
     (λ e. rw e (omega arith))
 
 -- ---- `carry_on`
@@ -115,20 +112,16 @@ module _ (input : List ℕ) (first : Ran) (memory output : List ℕ) (m : ℕ) w
   carries {r} {memory′} {output′} h = record { carries = h; whole = one }
     where
       one : (n : ℕ) (s : State) → n + m ≤ largest → Ends (resume input n s) first memory output → Ends (resume input (n + m) s) r memory′ output′
-      one n s l e =
-          let c : first .count ≤ n = omega (arith, e .counts, resume-count input n s) in
+      one n s l e = let c : first .count ≤ n = omega (arith, e .counts, resume-count input n s) in
           let k : m ≡ allowed (first .count) m = allowed-all (first .count) m (omega arith) in
-          let is : resume input (n + m) s ≡ carriedOn (outcomeOf first memory output) onwards =
-          resume-add input n m s
+          let is : resume input (n + m) s ≡ carriedOn (outcomeOf first memory output) onwards = resume-add input n m s
           ∙ ap (λ (o : Outcome). carriedOn o (λ t. resume input m t)) (came-out e)
           ∙ ap (λ (b : ℕ). carriedOn (outcomeOf first memory output) (λ t. resume input b t)) k
           in rw is h
 
   -- a first part that stopped otherwise is the whole run
   pub carry-whole : (first .stop ≡ 31 → ⊥) → CarriesOn input first memory output m first memory output
-  carry-whole z =
-      carries
-      (rw (carried-other (outcomeOf first memory output) onwards z)
+  carry-whole z = carries (rw (carried-other (outcomeOf first memory output) onwards z)
       (record { stops = refl; counts = refl; leaves = refl; stores = refl; writes = refl }))
 
   module _ {b : ℕ} (hb : b ≡ allowed (first .count) m) {rest : Ran} {memory′ output′ : List ℕ}
@@ -139,8 +132,7 @@ module _ (input : List ℕ) (first : Ran) (memory output : List ℕ) (m : ℕ) w
     pub carry-rest : first .stop ≡ 31 → CarriesOn input first memory output m
         (record { stop = rest .stop; count = first .count + rest .count; registers = rest .registers }) memory′ output′
     carry-rest z =
-        carries (rw (carried-31 (outcomeOf first memory output) onwards z, ← hb)
-        (record {
+        carries (rw (carried-31 (outcomeOf first memory output) onwards z, ← hb) (record {
           stops = e .stops;
           counts = ap (λ (k : ℕ). first .count + k) (e .counts);
           leaves = e .leaves;

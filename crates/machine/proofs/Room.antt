@@ -47,18 +47,16 @@ module _ (r : Registers) {o o′ : List ℕ} (h : Roomier (r .written) o o′) w
   alike-memories e (stop k) f = both-stopped k
 
   one-byte : (v : ℕ) → r .written < length o → Roomier (r .written + 1) (set o (r .written) v) (set o′ (r .written) v)
-  one-byte v l =
-      record {
-        room = let a = length-set o (r .written) v in let b = length-set o′ (r .written) v in let c = h .room in omega arith;
-        same = λ i k. by-equal i (r .written)
-            (λ e. rw e (getD-set-same o (r .written) v 0 l ∙ sym (getD-set-same o′ (r .written) v 0 (lt-of-lt-of-le l (h .room)))))
-            (λ e. getD-set-other o (r .written) i v 0 e ∙ h .same i (omega arith) ∙ sym (getD-set-other o′ (r .written) i v 0 e));
-      }
+  one-byte v l = record {
+    room = let a = length-set o (r .written) v in let b = length-set o′ (r .written) v in let c = h .room in omega arith;
+    same = λ i k. by-equal i (r .written)
+        (λ e. rw e (getD-set-same o (r .written) v 0 l ∙ sym (getD-set-same o′ (r .written) v 0 (lt-of-lt-of-le l (h .room)))))
+        (λ e. getD-set-other o (r .written) i v 0 e ∙ h .same i (omega arith) ∙ sym (getD-set-other o′ (r .written) i v 0 e));
+  }
 
   alike-sent : (m : List ℕ) → Alike (resultOf (sent (at r m o))) (resultOf (sent (at r m o′)))
   unfolding sent
-  alike-sent m =
-      by-cases (ltb (r .written) (length o))
+  alike-sent m = by-cases (ltb (r .written) (length o))
       (λ e. let l = ltb-true _ _ e in rw (e, lt-ltb (r .written) (length o′) (lt-of-lt-of-le l (h .room))) (both-done _ m (one-byte (r .a % 256) l)))
       (λ e. rw e (full _))
 

@@ -25,8 +25,7 @@ record One (r : Registers) (o : Out Fetch) (f x : ℕ) (r′ : Registers) : Type
 
 fetched-one : (r : Registers) (o : Out Fetch) {a : Fetched} {f x : ℕ} {r′ : Registers} → a ≡ asFetched r o → a ≡ F.One f x r′ → One r o f x r′
 unfolding asFetched
-fetched-one r (ok t) {f = f} {x = x} p q =
-    let e : t .function ≡ f = cc in
+fetched-one r (ok t) {f = f} {x = x} p q = let e : t .function ≡ f = cc in
     let g : t .operand ≡ x = cc in
     record { past = t .past; fetched = λ i. ok (record { function = e i; operand = g i; past = t .past }); moved = cc }
 fetched-one r (stop k) p q = contradiction cc
@@ -53,8 +52,7 @@ module _ (input : List ℕ) (r : Registers) (m out : List ℕ) {a : Fetched} (p 
       → r′ ≡ withC c r
       → Steps (at r′ m out) (execute input (functionOf f) x (at r′ m out)) d m′ o′ → Steps (at r m out) (step input (at r m out)) d m′ o′
   unfolding step
-  step-from {f} {x} {c} g e h =
-      let z : step input (at r m out) ≡ execute input (functionOf f) x (at (withC c r) m out) = simp g in
+  step-from {f} {x} {c} g e h = let z : step input (at r m out) ≡ execute input (functionOf f) x (at (withC c r) m out) = simp g in
       rw z (from-other r (withC c r) m out (execute input (functionOf f) x (at (withC c r) m out)) (rw e at h))
 
   pub step-one : {f x : ℕ} {r′ : Registers} {d : D.StepResult} {m′ o′ : List ℕ} → a ≡ F.One f x r′
@@ -66,8 +64,7 @@ module _ (input : List ℕ) (r : Registers) (m out : List ℕ) {a : Fetched} (p 
 stepped-done : {s : State} (t : StepResult) {d : D.StepResult} {r : Registers} {m out : List ℕ} → Steps s t d m out → d ≡ T.Done r
     → t ≡ done (at r m out)
 unfolding asResult left
-stepped-done (done t) {r = r} h q =
-    let e : t .regs ≡ r = cc (h .answers) in
+stepped-done (done t) {r = r} h q = let e : t .regs ≡ r = cc (h .answers) in
     λ i. done (record { regs = e i; mem = sym (h .stores) i; out = sym (h .writes) i })
 stepped-done (finished t) h q = contradiction cc (h .answers)
 stepped-done (stopped k) h q = contradiction cc (h .answers)
@@ -75,8 +72,7 @@ stepped-done (stopped k) h q = contradiction cc (h .answers)
 stepped-finished : {s : State} (t : StepResult) {d : D.StepResult} {r : Registers} {m out : List ℕ} → Steps s t d m out → d ≡ T.Finished r
     → t ≡ finished (at r m out)
 unfolding asResult left
-stepped-finished (finished t) {r = r} h q =
-    let e : t .regs ≡ r = cc (h .answers) in
+stepped-finished (finished t) {r = r} h q = let e : t .regs ≡ r = cc (h .answers) in
     λ i. finished (record { regs = e i; mem = sym (h .stores) i; out = sym (h .writes) i })
 stepped-finished (done t) h q = contradiction cc (h .answers)
 stepped-finished (stopped k) h q = contradiction cc (h .answers)
@@ -109,39 +105,33 @@ pub record Left (input : List ℕ) (budget : ℕ) (s₀ : State) (rest : ℕ) (s
   pub whole : steps input budget s₀ ≡ after (budget - rest) (steps input rest s)
 
 pub left-all : (input : List ℕ) (n : ℕ) (s : State) → Left input n s n s
-left-all input n s =
-    let z : steps input n s .count ≡ n - n + steps input n s .count = omega arith in
+left-all input n s = let z : steps input n s .count ≡ n - n + steps input n s .count = omega arith in
     record { within = omega arith; whole = λ i. record { stop = steps input n s .stop; count = z i; state = steps input n s .state } }
 
 module _ (input : List ℕ) (n : ℕ) (s₀ : State) (rest : ℕ) (r : Registers) (m out : List ℕ) (h : Left input n s₀ rest (at r m out)) where
   pub left-out : rest ≤ 0 → Ends (steps input n s₀) (record { stop = 31; count = n; registers = r }) m out
   unfolding steps
-  left-out z =
-      let e : rest ≡ 0 = omega arith in
+  left-out z = let e : rest ≡ 0 = omega arith in
       let q : steps input n s₀ ≡ after (n - 0) (steps input 0 (at r m out)) = rw e at (h .whole) in
       rw q (record { stops = refl; counts = omega arith; leaves = refl; stores = refl; writes = refl })
 
   module _ (pos : 0 < rest) {d : D.StepResult} {m′ out′ : List ℕ} (did : Steps (at r m out) (step input (at r m out)) d m′ out′) where
     first : {t : StepResult} → step input (at r m out) ≡ t
         → steps input n s₀ ≡ after (n - rest) (onResult (at r m out) t (λ u. steps input (rest - 1) u))
-    first e =
-        h .whole ∙ ap (after (n - rest)) (steps-first input rest (at r m out) pos ∙
+    first e = h .whole ∙ ap (after (n - rest)) (steps-first input rest (at r m out) pos ∙
         ap (λ (t : StepResult). onResult (at r m out) t (λ u. steps input (rest - 1) u)) e)
 
     pub left-run-steps : {t : Registers} → d ≡ T.Done t → Left input n s₀ (rest - 1) (at t m′ out′)
-    left-run-steps q =
-        let le = h .within in
-        record {
-          within = omega arith;
-          whole = first (stepped-done _ did q) ∙ after-after (n - rest) 1 (n - (rest - 1)) _ (omega arith);
-        }
+    left-run-steps q = let le = h .within in record {
+      within = omega arith;
+      whole = first (stepped-done _ did q) ∙ after-after (n - rest) 1 (n - (rest - 1)) _ (omega arith);
+    }
 
     pub left-finish : {t : Registers} → d ≡ T.Finished t → Ends (steps input n s₀) (record { stop = 30; count = n - rest + 1; registers = t }) m′ out′
     left-finish q = rw (first (stepped-finished _ did q)) (record { stops = refl; counts = refl; leaves = refl; stores = refl; writes = refl })
 
     pub left-stop : {k : ℕ} → d ≡ T.Stopped k → Ends (steps input n s₀) (record { stop = k; count = n - rest; registers = r }) m′ out′
-    left-stop q =
-        let e = stepped-stopped _ did q in
+    left-stop q = let e = stepped-stopped _ did q in
         rw (first (e .stops)) (record { stops = refl; counts = omega arith; leaves = refl; stores = e .stores; writes = e .writes })
 
 -- ---- the memory's length

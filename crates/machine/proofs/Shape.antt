@@ -53,8 +53,7 @@ yields-search m a d (suc n) i = yields-bind (yields-read m i) (λ v _. yields-co
 
 pub yields-switched : (r : Registers) (m : List ℕ) → Yields (SameWritten r) (switched r m)
 unfolding switched
-yields-switched r m =
-    yields-bind (yields-read m _) (λ n _. yields-bind (yields-read m _)
+yields-switched r m = yields-bind (yields-read m _) (λ n _. yields-bind (yields-read m _)
     (λ d _. yields-bind (yields-search m (r .a) d n _) (λ c _. gives (record { same = refl }))))
 
 pub yields-received : (r : Registers) (input : List ℕ) → SameWritten r (received r input)
@@ -144,8 +143,7 @@ yields-write m i v = yields-cond (ltb i (length m)) (gives (record { same = leng
 
 shape-sent : (s : State) → Shape s (resultOf (sent s))
 unfolding sent
-shape-sent s =
-    by-cases (ltb (s .regs .written) (length (s .out)))
+shape-sent s = by-cases (ltb (s .regs .written) (length (s .out)))
     (λ e. rw e (one-more (record { memory = refl; byte = s .regs .a % 256; room = ltb-true _ _ e; output = refl; place = refl })))
     (λ e. rw e (halts (lit< tt)))
 
@@ -171,15 +169,13 @@ shape-execute input A x s = shape-keep s (gives (record { same = refl }))
 shape-execute input J x s = shape-keep s (gives (record { same = refl }))
 shape-execute input T x s = shape-keep s (gives (yields-jumped _ x (s .regs)))
 shape-execute input F x s = shape-keep s (gives (yields-jumped _ x (s .regs)))
-shape-execute input K x s =
-    shape-result (yields-bind (yields-write (s .mem) _ _) (λ m e.
+shape-execute input K x s = shape-result (yields-bind (yields-write (s .mem) _ _) (λ m e.
     yields-bind (yields-write m _ _) (λ n f. gives (record { memory = f .same ∙ e .same; output = refl; place = refl }))))
 shape-execute input X x s = shape-perform input (actOf x) s (sound-act x)
 
 yields-fetch : (r : Registers) (m : List ℕ) → Yields Any (fetch r m)
 unfolding fetch
-yields-fetch r m =
-    yields-bind (yields-read m _) (λ w _.
+yields-fetch r m = yields-bind (yields-read m _) (λ w _.
     yields-bind (yields-cond (bit 512 w) (yields-read m _) (gives tt)) (λ n _.
     yields-bind (yields-cond (bit 4096 w) (yields-read m _) (gives tt)) (λ x _. gives tt)))
 

@@ -108,14 +108,12 @@ same-on-result s (stopped k) f g e = refl
 pub steps-unchanged : (input : List ℕ) (n : ℕ) (s : State) → bareOutcome (steps input n s) ≡ W.steps input n (bareState s)
 unfolding steps W.steps
 steps-unchanged input zero s = refl
-steps-unchanged input (suc n) s =
-    same-on-result s (step input s) (λ t. steps input n t) (λ t. W.steps input n t) (λ t. steps-unchanged input n t)
+steps-unchanged input (suc n) s = same-on-result s (step input s) (λ t. steps input n t) (λ t. W.steps input n t) (λ t. steps-unchanged input n t)
     ∙ ap (λ (t : W.StepResult). W.onResult (bareState s) t (λ u. W.steps input n u)) (step-unchanged input s)
 
 pub resume-unchanged : (input : List ℕ) (n : ℕ) (s : State) → bareOutcome (resume input n s) ≡ W.resume input n (bareState s)
 unfolding resume W.resume
-resume-unchanged input n s =
-    by-cases (leb 512 (length (s .mem)) && leb (length (s .mem)) 32768) (λ e. rw e (steps-unchanged input n s))
+resume-unchanged input n s = by-cases (leb 512 (length (s .mem)) && leb (length (s .mem)) 32768) (λ e. rw e (steps-unchanged input n s))
     (λ e. rw e refl)
 
 pub run-unchanged : (first : ℕ) (memory input output : List ℕ) (n : ℕ)

@@ -84,9 +84,7 @@ unfoldable pub received : Registers → List ℕ → Registers
 received r input = cond (ltb (r .taken) (length input)) (took (getD input (r .taken) 0) r) (withA 65535 r)
 
 unfoldable pub sent : State → Out State
-sent s =
-    cond (ltb (s .regs .written) (length (s .out)))
-    (ok (at (wrote (s .regs)) (s .mem) (set (s .out) (s .regs .written) (s .regs .a % 256))))
+sent s = cond (ltb (s .regs .written) (length (s .out))) (ok (at (wrote (s .regs)) (s .mem) (set (s .out) (s .regs .written) (s .regs .a % 256))))
     (stop 35)
 
 -- ---- one instruction
@@ -168,10 +166,7 @@ steps input zero s = record { stop = 31; count = 0; state = s }
 steps input (suc n) s = onResult s (step input s) (λ t. steps input n t)
 
 unfoldable pub resume : List ℕ → (budget : ℕ) → State → Outcome
-resume input n s =
-    cond (leb 512 (length (s .mem)) && leb (length (s .mem)) 32768)
-    (steps input n s)
-    (record { stop = 24; count = 0; state = s })
+resume input n s = cond (leb 512 (length (s .mem)) && leb (length (s .mem)) 32768) (steps input n s) (record { stop = 24; count = 0; state = s })
 
 abbrev pub run : (first : ℕ) (memory input output : List ℕ) (budget : ℕ) → Outcome
 run first memory input output n = resume input n (at (startRegisters first) memory output)

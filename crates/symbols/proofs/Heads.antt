@@ -48,8 +48,7 @@ module _ (text : List ℕ) (at : ℕ) (h : at < length text) where
 
     pub one-slash : at + 1 < length text → eqb (getD text (at + 1) 0) 47 ≡ slashes (drop at text)
     unfolding begins
-    one-slash k =
-        sym (at-byte slashes text at h e ∙ at-byte (λ (l : List ℕ). slashes (47 ∷ l)) text (at + 1) k refl
+    one-slash k = sym (at-byte slashes text at h e ∙ at-byte (λ (l : List ℕ). slashes (47 ∷ l)) text (at + 1) k refl
         ∙ alone (eqb 47 (getD text (at + 1) 0)) ∙ swapped 47 (getD text (at + 1) 0))
 
 -- what is read from the next byte on
@@ -74,15 +73,14 @@ module _ (bs : List ℕ) where
 
     pub no-class : Unlike k (9 ∷ 8 ∷ 7 ∷ 6 ∷ 5 ∷ 4 ∷ 2 ∷ 1 ∷ []) → wrong 2 0 ≡ byClass (classOf c) bs
     unfolding byClass
-    no-class h =
-        rw (
-          ← e,
-          ne-eqb k 1 (h .0 .0 .0 .0 .0 .0 .0 .1),
-          ne-eqb k 2 (h .0 .0 .0 .0 .0 .0 .1),
-          ne-eqb k 4 (h .0 .0 .0 .0 .0 .1),
-          ne-eqb k 5 (h .0 .0 .0 .0 .1),
-          ne-eqb k 6 (h .0 .0 .0 .1),
-          ne-eqb k 7 (h .0 .0 .1),
-          ne-eqb k 8 (h .0 .1),
-          ne-eqb k 9 (h .1),
-        )
+    no-class h = rw (
+      ← e,
+      ne-eqb k 1 (h .0 .0 .0 .0 .0 .0 .0 .1),
+      ne-eqb k 2 (h .0 .0 .0 .0 .0 .0 .1),
+      ne-eqb k 4 (h .0 .0 .0 .0 .0 .1),
+      ne-eqb k 5 (h .0 .0 .0 .0 .1),
+      ne-eqb k 6 (h .0 .0 .0 .1),
+      ne-eqb k 7 (h .0 .0 .1),
+      ne-eqb k 8 (h .0 .1),
+      ne-eqb k 9 (h .1),
+    )

@@ -31,8 +31,7 @@ unfolding Q.byNumber Q.byDigits newlines
 number-line [] = record { line = tt }
 number-line (a ∷ []) = record { line = tt }
 number-line (a ∷ b ∷ []) = record { line = tt }
-number-line (a ∷ b ∷ c ∷ r) =
-    either (OneLine (42 ∷ a ∷ b ∷ c ∷ r)) (Q.digit a && (Q.digit b && (Q.digit c && leb (Q.numberOf a b c) 255)))
+number-line (a ∷ b ∷ c ∷ r) = either (OneLine (42 ∷ a ∷ b ∷ c ∷ r)) (Q.digit a && (Q.digit b && (Q.digit c && leb (Q.numberOf a b c) 255)))
     (λ e. let p = both-true (Q.digit a) _ e in
     let q = both-true (Q.digit b) _ (p .1) in
     record { line = rw (no-newline a (p .0), no-newline b (q .0), no-newline c (both-true (Q.digit c) _ (q .1) .0)) })
@@ -44,8 +43,7 @@ number-line (a ∷ b ∷ c ∷ r) =
 escape-line : (bs : List ℕ) → OneLine (42 ∷ bs) (Q.escape bs)
 unfolding Q.escape newlines
 escape-line [] = record { line = tt }
-escape-line (c ∷ r) =
-    one 78 10 refl (one 83 32 refl (one 84 9 refl (one 66 8 refl (one 80 12 refl
+escape-line (c ∷ r) = one 78 10 refl (one 83 32 refl (one 84 9 refl (one 66 8 refl (one 80 12 refl
     (one 67 13 refl (one 42 42 refl (one 39 39 refl (one 34 34 refl (number-line (c ∷ r))))))))))
   where
     one : (k v : ℕ) {other : Q.Character} → eqb k 10 ≡ false → OneLine (42 ∷ c ∷ r) other → OneLine (42 ∷ c ∷ r) (cond (eqb c k) (Q.is v 2) other)
@@ -54,13 +52,10 @@ escape-line (c ∷ r) =
 character-line : (quote : ℕ) → eqb quote 10 ≡ false → (bs : List ℕ) → CharacterLine bs (Q.character quote bs)
 unfolding Q.character newlines
 character-line quote n [] = tt
-character-line quote n (c ∷ r) =
-    either (CharacterLine (c ∷ r)) (eqb c quote) (λ e. rw (eqb-true c quote e, n))
+character-line quote n (c ∷ r) = either (CharacterLine (c ∷ r)) (eqb c quote) (λ e. rw (eqb-true c quote e, n))
     (λ _. either (CharacterLine (c ∷ r)) (eqb c 42) (λ e. rw (eqb-true c 42 e) (escape-line r .line))
-    (λ _. either (CharacterLine (c ∷ r)) (eqb c 10) (λ _. tt)
-    (λ _. either (CharacterLine (c ∷ r)) (leb 32 c)
-    (λ l. either (CharacterLine (c ∷ r)) (leb c 126) (λ h. rw (ne-eqb c 10 (λ e. omega (arith, leb-true 32 c l)))) (λ _. tt))
-    (λ _. tt))))
+    (λ _. either (CharacterLine (c ∷ r)) (eqb c 10) (λ _. tt) (λ _. either (CharacterLine (c ∷ r)) (leb 32 c)
+    (λ l. either (CharacterLine (c ∷ r)) (leb c 126) (λ h. rw (ne-eqb c 10 (λ e. omega (arith, leb-true 32 c l)))) (λ _. tt)) (λ _. tt))))
 
 -- the newlines of a quotation are those of the bytes passed over first
 abbrev QuotedLine : (k : ℕ) → List ℕ → Quoted → Type 0
@@ -126,8 +121,7 @@ begins-within : (ss bs : List ℕ) → begins ss bs ≡ true → (length ss ≤ 
 unfolding begins newlines
 begins-within [] bs e = (omega arith, refl)
 begins-within (s ∷ ss) [] e = contradiction cc
-begins-within (s ∷ ss) (b ∷ bs) e =
-    let k : s ≡ b = eqb-true s b (both-left (eqb s b) (begins ss bs) e) in
+begins-within (s ∷ ss) (b ∷ bs) e = let k : s ≡ b = eqb-true s b (both-left (eqb s b) (begins ss bs) e) in
     let h : (length ss ≤ length bs) × (newlines (take (length ss) bs) ≡ newlines ss) = begins-within ss bs (both-right (eqb s b) (begins ss bs) e) in
     (omega (arith, h .0), rw (k, h .1))
 
@@ -140,8 +134,7 @@ sign-given (s ∷ ss) bs lines l t =
   where
     by : (b : Bool) → begins (s .spelling) bs ≡ b → onOneLine s ≡ true → Given bs lines (signIn ss bs)
         → Given bs lines (elim b [ true ↦ symbol (s .kind) 0 (length (s .spelling)) | false ↦ signIn ss bs ])
-    by true e o h =
-        let w : (length (s .spelling) ≤ length bs) × (newlines (take (length (s .spelling)) bs) ≡ newlines (s .spelling)) = begins-within
+    by true e o h = let w : (length (s .spelling) ≤ length bs) × (newlines (take (length (s .spelling)) bs) ≡ newlines (s .spelling)) = begins-within
         (s .spelling) bs e in
         let p : (eqb (newlines (s .spelling)) 0 && known s) ≡ true = both-right (leb 1 (length (s .spelling))) _ o in (
           record {
@@ -155,8 +148,7 @@ sign-given (s ∷ ss) bs lines l t =
     by false e o h = h
 
 run-stood : {p : ℕ → Bool} {f : List ℕ → ℕ} → Run p f → (c : ℕ) (r : List ℕ) → p c ≡ true → p 10 ≡ false → Stood (c ∷ r) 0 (f (c ∷ r))
-run-stood {p} {f} run c r e n =
-    let k : f (c ∷ r) ≡ suc (f r) = run .some c r ∙ rw e in
+run-stood {p} {f} run c r e n = let k : f (c ∷ r) ≡ suc (f r) = run .some c r ∙ rw e in
     record { some = omega (arith, k); within = run-within run (c ∷ r); line = run-line run n (c ∷ r) }
 
 -- after a byte that is no newline
@@ -170,24 +162,9 @@ other-class c m e h k = h (sym e ∙ ap classOf k)
 
 -- a byte that is neither a letter nor a digit
 abbrev others : ℕ → ℕ
-others c =
-    cond (eqb c 46) 3
-    (cond (eqb c 35) 4
-    (cond (eqb c 39) 5
-    (cond (eqb c 34) 6
-    (cond (eqb c 32) 8
-    (cond (eqb c 9) 8
-    (cond (eqb c 13) 8
-    (cond (eqb c 10) 9
-    (cond (eqb c 33) 7
-    (cond (eqb c 36) 7
-    (cond (eqb c 38) 7
-    (cond (between 40 45 c) 7
-    (cond (eqb c 47) 7
-    (cond (between 58 62 c) 7
-    (cond (eqb c 64) 7
-    (cond (eqb c 124) 7
-    (cond (eqb c 126) 7 0))))))))))))))))
+others c = cond (eqb c 46) 3 (cond (eqb c 35) 4 (cond (eqb c 39) 5 (cond (eqb c 34) 6 (cond (eqb c 32) 8 (cond (eqb c 9) 8 (cond (eqb c 13) 8
+    (cond (eqb c 10) 9 (cond (eqb c 33) 7 (cond (eqb c 36) 7 (cond (eqb c 38) 7 (cond (between 40 45 c) 7 (cond (eqb c 47) 7 (cond (between 58 62 c) 7
+    (cond (eqb c 64) 7 (cond (eqb c 124) 7 (cond (eqb c 126) 7 0))))))))))))))))
 
 -- a byte of the class of digits is a digit
 digit-class : (c : ℕ) → classOf c ≡ 2 → digitOf 10 c ≡ true
@@ -195,8 +172,7 @@ unfolding classOf
 digit-class c = by (between 65 90 c) (between 48 57 c) refl
   where
     low : between 48 57 c ≡ true → digitOf 10 c ≡ true
-    low e =
-        let l : 48 ≤ c = leb-true 48 c (both-left (leb 48 c) (leb c 57) e) in
+    low e = let l : 48 ≤ c = leb-true 48 c (both-left (leb 48 c) (leb c 57) e) in
         let h : c ≤ 57 = leb-true c 57 (both-right (leb 48 c) (leb c 57) e) in
         from-digits 10 c l ∙ lt-ltb c 58 (omega arith)
 
@@ -205,23 +181,9 @@ digit-class c = by (between 65 90 c) (between 48 57 c) refl
     never false k a b = b
 
     rest : others c ≡ 2 → ⊥
-    rest =
-        never (eqb c 46) 3 tt
-        (never (eqb c 35) 4 tt
-        (never (eqb c 39) 5 tt
-        (never (eqb c 34) 6 tt
-        (never (eqb c 32) 8 tt
-        (never (eqb c 9) 8 tt
-        (never (eqb c 13) 8 tt
-        (never (eqb c 10) 9 tt
-        (never (eqb c 33) 7 tt
-        (never (eqb c 36) 7 tt
-        (never (eqb c 38) 7 tt
-        (never (between 40 45 c) 7 tt
-        (never (eqb c 47) 7 tt
-        (never (between 58 62 c) 7 tt
-        (never (eqb c 64) 7 tt
-        (never (eqb c 124) 7 tt
+    rest = never (eqb c 46) 3 tt (never (eqb c 35) 4 tt (never (eqb c 39) 5 tt (never (eqb c 34) 6 tt (never (eqb c 32) 8 tt (never (eqb c 9) 8 tt
+        (never (eqb c 13) 8 tt (never (eqb c 10) 9 tt (never (eqb c 33) 7 tt (never (eqb c 36) 7 tt (never (eqb c 38) 7 tt
+        (never (between 40 45 c) 7 tt (never (eqb c 47) 7 tt (never (between 58 62 c) 7 tt (never (eqb c 64) 7 tt (never (eqb c 124) 7 tt
         (never (eqb c 126) 7 tt (λ e. omega arith)))))))))))))))))
 
     by : (a b : Bool) → between 48 57 c ≡ b → cond a 1 (cond b 2 (others c)) ≡ 2 → digitOf 10 c ≡ true
@@ -238,22 +200,18 @@ module _ (c : ℕ) (r : List ℕ) (lines : ℕ) where
 
   decimal-given : classOf c ≡ 2 → Given (c ∷ r) lines (decimal (c ∷ r))
   unfolding decimal
-  decimal-given e =
-      either (Given (c ∷ r) lines) (leb (valueOf 10 0 (c ∷ r)) 32767)
+  decimal-given e = either (Given (c ∷ r) lines) (leb (valueOf 10 0 (c ∷ r)) 32767)
       (λ h. (run-stood (digits-run 10) c r (digit-class c e) refl, omega arith, omega (arith, leb-true (valueOf 10 0 (c ∷ r)) 32767 h)))
       (λ _. omega arith)
 
   module _ (n : c ≡ 10 → ⊥) where
     octal-given : Given (c ∷ r) lines (octal r)
     unfolding octal
-    octal-given =
-        either (Given (c ∷ r) lines) (leb 1 (digits 8 r) && leb (valueOf 8 0 r) 65535)
-        (λ h. (
-          past-stood c r n (run-within (digits-run 8) r) (run-line (digits-run 8) refl r),
-          omega arith,
-          omega (arith, leb-true (valueOf 8 0 r) 65535 (both-right (leb 1 (digits 8 r)) _ h)),
-        ))
-        (λ _. omega arith)
+    octal-given = either (Given (c ∷ r) lines) (leb 1 (digits 8 r) && leb (valueOf 8 0 r) 65535) (λ h. (
+      past-stood c r n (run-within (digits-run 8) r) (run-line (digits-run 8) refl r),
+      omega arith,
+      omega (arith, leb-true (valueOf 8 0 r) 65535 (both-right (leb 1 (digits 8 r)) _ h)),
+    )) (λ _. omega arith)
 
     character-given : Given (c ∷ r) lines (character r)
     unfolding character newlines
@@ -261,8 +219,7 @@ module _ (c : ℕ) (r : List ℕ) (lines : ℕ) where
       where
         by : (q : Quoted) → quoted 39 1 0 r ≡ q → QuotedLine 0 r q → Given (c ∷ r) lines (asCharacter q)
         by (closed [] w) e k = omega arith
-        by (closed (v ∷ vs) w) e k =
-            let d : Closed 1 0 (length r) (v ∷ vs) w = is-closed 39 1 0 r e in
+        by (closed (v ∷ vs) w) e k = let d : Closed 1 0 (length r) (v ∷ vs) w = is-closed 39 1 0 r e in
             (past-stood c r n (d .within) k, omega arith, omega (arith, each-byte (v ∷ vs) (d .each) 0))
         by unclosed e k = omega arith
         by (faulty number w) e k = omega (arith, fault-within 39 1 0 r e)
@@ -272,8 +229,7 @@ module _ (c : ℕ) (r : List ℕ) (lines : ℕ) where
     string-given = by (quoted 34 255 0 r) refl (quoted-line 34 refl 255 0 r)
       where
         by : (q : Quoted) → quoted 34 255 0 r ≡ q → QuotedLine 0 r q → Given (c ∷ r) lines (asString q)
-        by (closed cs w) e k =
-            let d : Closed 255 0 (length r) cs w = is-closed 34 255 0 r e in
+        by (closed cs w) e k = let d : Closed 255 0 (length r) cs w = is-closed 34 255 0 r e in
             (past-stood c r n (d .within) k, omega arith, omega (arith, d .short))
         by unclosed e k = omega arith
         by (faulty number w) e k = omega (arith, fault-within 34 255 0 r e)
@@ -288,21 +244,18 @@ module _ (c : ℕ) (r : List ℕ) where
 
   comment-given : begins (47 ∷ 47 ∷ []) (c ∷ r) ≡ true → Given (c ∷ r) here (comment (c ∷ r))
   unfolding comment begins
-  comment-given e =
-      let k : 47 ≡ c = eqb-true 47 c (both-left (eqb 47 c) _ e) in
+  comment-given e = let k : 47 ≡ c = eqb-true 47 c (both-left (eqb 47 c) _ e) in
       let n : eqb c 10 ≡ false = ne-eqb c 10 (λ j. omega arith) in
       rw n (run-stood comment-run c r (rw n) refl)
 
   sign-or-comment-given : Given (c ∷ r) here (signOrComment (c ∷ r))
   unfolding signOrComment sign signs newlines
-  sign-or-comment-given =
-      either (Given (c ∷ r) here) (begins (47 ∷ 47 ∷ []) (c ∷ r)) comment-given
+  sign-or-comment-given = either (Given (c ∷ r) here) (begins (47 ∷ 47 ∷ []) (c ∷ r)) comment-given
       (λ _. sign-given signs (c ∷ r) here (omega arith) refl)
 
   pub element-given : Given (c ∷ r) here (byClass (classOf c) (c ∷ r))
   unfolding byClass
-  element-given =
-      either (Given (c ∷ r) here) (eqb (classOf c) LETTER) (λ e. word-given c r here (eqb-true _ _ e))
+  element-given = either (Given (c ∷ r) here) (eqb (classOf c) LETTER) (λ e. word-given c r here (eqb-true _ _ e))
       (λ _. either (Given (c ∷ r) here) (eqb (classOf c) DIGIT) (λ e. decimal-given c r here (eqb-true _ _ e))
       (λ _. either (Given (c ∷ r) here) (eqb (classOf c) HASH) (λ e. octal-given c r here (other-class c 4 (eqb-true _ _ e) (λ k. omega arith)))
       (λ _. either (Given (c ∷ r) here) (eqb (classOf c) QUOTE) (λ e. character-given c r here (other-class c 5 (eqb-true _ _ e) (λ k. omega arith)))

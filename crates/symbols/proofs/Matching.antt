@@ -42,13 +42,12 @@ module _ (s : List ℕ) (depth : ℕ) where
     pub match-open : {k : ℕ} {r : Depth} {s′ : List ℕ} → k ≡ kind → depth < length s → r ≡ D.Is (depth + 1) → s′ ≡ sets s depth (wanted ∷ [])
         → Matches k depth s r s′
     unfolding asMatching AtMost
-    match-open e h p q =
-        rw (e, p, q) (record {
-          same = length-set s depth wanted;
-          gives = λ value place. rw (add-one, getD-set-same s depth wanted 0 h, stacked-set s depth wanted depth (omega arith))
-              (sym (b (stacked s depth) value place));
-          low = omega arith;
-        })
+    match-open e h p q = rw (e, p, q) (record {
+      same = length-set s depth wanted;
+      gives = λ value place. rw (add-one, getD-set-same s depth wanted 0 h, stacked-set s depth wanted depth (omega arith))
+          (sym (b (stacked s depth) value place));
+      low = omega arith;
+    })
 
   -- a closing one
   module _ (kind : ℕ) (b : (ws : List ℕ) (value place : ℕ) → B.bracket ws (symbolOf kind value place) ≡ B.closing ws (symbolOf kind value place))
@@ -68,12 +67,11 @@ module _ (s : List ℕ) (depth : ℕ) where
 
   pub match-other : (k : ℕ) → Unlike k (58 ∷ 52 ∷ 57 ∷ 51 ∷ []) → Matches k depth s (D.Is depth) s
   unfolding asMatching AtMost B.bracket
-  match-other k u =
-      record {
-        same = refl;
-        gives = λ value place. rw (ne-eqb k 51 (u .0 .0 .0 .1), ne-eqb k 57 (u .0 .0 .1), ne-eqb k 52 (u .0 .1), ne-eqb k 58 (u .1));
-        low = omega arith;
-      }
+  match-other k u = record {
+    same = refl;
+    gives = λ value place. rw (ne-eqb k 51 (u .0 .0 .0 .1), ne-eqb k 57 (u .0 .0 .1), ne-eqb k 52 (u .0 .1), ne-eqb k 58 (u .1));
+    low = omega arith;
+  }
 
 pub opens-round : (ws : List ℕ) (value place : ℕ) → B.bracket ws (symbolOf 51 value place) ≡ matched (52 ∷ ws)
 unfolding B.bracket
@@ -138,15 +136,13 @@ module _ (text s₀ : List ℕ) (at depth : ℕ) (s : List ℕ) (g : Going text 
     module _ {after : Depth} {s′ : List ℕ} (m : Matches kind depth s after s′) where
       pub going-unmatched : after ≡ D.Unmatched → faultFrom text [] (scan text) ≡ fault 5 place
       unfolding faultFrom asMatching brackets
-      going-unmatched u =
-          let b : B.bracket (stacked s depth) (symbolOf kind value place) ≡ unmatched place = sym (m .gives value place) ∙
+      going-unmatched u = let b : B.bracket (stacked s depth) (symbolOf kind value place) ≡ unmatched place = sym (m .gives value place) ∙
           ap (λ (d : Depth). asMatching place d s′) u in
           on-symbol ∙ rw b
 
       pub going-on : {d : ℕ} → after ≡ D.Is d → Going text s₀ past d s′
       unfolding faultFrom asMatching AtMost brackets
-      going-on {d} u =
-          let b : B.bracket (stacked s depth) (symbolOf kind value place) ≡ matched (stacked s′ d) = sym (m .gives value place) ∙
+      going-on {d} u = let b : B.bracket (stacked s depth) (symbolOf kind value place) ≡ matched (stacked s′ d) = sym (m .gives value place) ∙
           ap (λ (d : Depth). asMatching place d s′) u in
           let l : d ≤ depth + 1 = rw u at (m .low) in
           record {

@@ -19,8 +19,7 @@ pub from-digits : (base c : ℕ) → 48 ≤ c → digitOf base c ≡ ltb c (48 +
 from-digits base c h = rw (le-leb 48 c h)
 
 pub digit-from : (base c : ℕ) → digitOf base c ≡ true → 48 ≤ c
-digit-from base c e =
-    by-cases (leb 48 c) (λ k. leb-true 48 c k)
+digit-from base c e = by-cases (leb 48 c) (λ k. leb-true 48 c k)
     (λ k. let y : false ≡ true = sym (ap (λ (t : Bool). (t && (ltb c (48 + base)))) k) ∙ e in contradiction cc)
 
 -- ---- large values
@@ -60,15 +59,13 @@ capped-alike : (v : ℕ) → Alike (capped v) v
 capped-alike v = ⊎-elim (λ h. inl (capped-low v h)) (λ h. inr (omega (arith, capped-high v h), h)) (either-side v)
 
 alike-digit : (base d v w : ℕ) → 1 ≤ base → Alike v w → Alike (v * base + d) (w * base + d)
-alike-digit base d v w h =
-    ⊎-elim (λ e. inl (ap (λ (n : ℕ). n * base + d) e))
+alike-digit base d v w h = ⊎-elim (λ e. inl (ap (λ (n : ℕ). n * base + d) e))
     (λ k. inr (omega (arith, le-mul-of-pos-right v h), omega (arith, le-mul-of-pos-right w h)))
 
 alike-value : (base : ℕ) → 1 ≤ base → (bytes : List ℕ) (v w : ℕ) → Alike v w → Alike (valueOf base v bytes) (valueOf base w bytes)
 unfolding valueOf
 alike-value base h [] v w a = a
-alike-value base h (c ∷ r) v w a =
-    elim (digitOf base c) as (λ t. Alike (elim t [ true ↦ valueOf base (v * base + (c - 48)) r | false ↦ v ])
+alike-value base h (c ∷ r) v w a = elim (digitOf base c) as (λ t. Alike (elim t [ true ↦ valueOf base (v * base + (c - 48)) r | false ↦ v ])
     (elim t [ true ↦ valueOf base (w * base + (c - 48)) r | false ↦ w ]))
     [ true ↦ alike-value base h r (v * base + (c - 48)) (w * base + (c - 48)) (alike-digit base (c - 48) v w h a) | false ↦ a ]
 
@@ -147,9 +144,7 @@ module _ (bs : List ℕ) where
     module _ (m : 1 ≤ n) {v : ℕ} (e : v ≡ capped (valueOf 8 0 bs)) where
       pub an-octal : v ≤ 65535 → E.Symbol 60 v (n + 1) ≡ asElement (octal bs)
       unfolding octal asElement
-      an-octal h =
-          let k : valueOf 8 0 bs ≡ v = uncapped _ e (omega arith) in
-          let s : n + 1 ≡ suc n = omega arith in
+      an-octal h = let k : valueOf 8 0 bs ≡ v = uncapped _ e (omega arith) in let s : n + 1 ≡ suc n = omega arith in
           rw (k, ← d, le-leb 1 n m, le-leb v 65535 h, s)
 
       pub no-octal : 65535 < v → E.Wrong 3 0 ≡ asElement (octal bs)

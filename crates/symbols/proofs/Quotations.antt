@@ -32,10 +32,7 @@ module _ (text : List ℕ) (at : ℕ) where
       where
         by : (cs : List ℕ) → quoted 39 1 0 (drop at text) ≡ closed cs w → n ≡ length cs → E.Symbol 60 v (w + 1) ≡ asElement (character (drop at text))
         by [] e k = absurd (some k)
-        by (c ∷ cs) e k =
-            let u : v ≡ c = f ∙ first-is 39 1 (drop at text) e in
-            let m : w + 1 ≡ suc w = omega arith in
-            rw (e, u, m)
+        by (c ∷ cs) e k = let u : v ≡ c = f ∙ first-is 39 1 (drop at text) e in let m : w + 1 ≡ suc w = omega arith in rw (e, u, m)
 
   pub character-unclosed : quoted 39 1 0 (drop at text) ≡ unclosed → E.Wrong 40 0 ≡ asElement (character (drop at text))
   unfolding character asElement

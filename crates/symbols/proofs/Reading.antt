@@ -39,15 +39,13 @@ module _ (text s : List ℕ) where
       pub refused : {number place : ℕ} {answer : SymbolsRead} {s₂ : List ℕ}
           → faultFrom text [] (scan text) ≡ fault number place → answer ≡ Refused number place → s₂ ≡ replicate (length s₁) 0 → Reads text s answer s₂
       unfolding symbolsOf faultFrom symbolsIn
-      refused {number} {place} f k q =
-          let b : symbolsOf text ≡ faulty number place = ap (λ (t : Fault). onFault t (symbolsIn text)) f in
+      refused {number} {place} f k q = let b : symbolsOf text ≡ faulty number place = ap (λ (t : Fault). onFault t (symbolsIn text)) f in
           reads (k ∙ rw (enough, b)) (q ∙ rw (enough, b, p .same))
 
       pub written : {s₂ : List ℕ} → faultFrom text [] (scan text) ≡ none → take (count * 3) s₁ ≡ entries (symbolsIn text)
           → s₂ ≡ take (count * 3) s₁ ++ replicate (length s₁ - count * 3) 0 → Reads text s (Read count) s₂
       unfolding symbolsOf faultFrom symbolsIn
-      written f w q =
-          let b : symbolsOf text ≡ good (symbolsIn text) = ap (λ (t : Fault). onFault t (symbolsIn text)) f in
+      written f w q = let b : symbolsOf text ≡ good (symbolsIn text) = ap (λ (t : Fault). onFault t (symbolsIn text)) f in
           let l : length (entries (symbolsIn text)) ≡ count * 3 = ap length (sym w) ∙ length-take-le (count * 3) s₁ (p .fits) in
           let c : length (symbolsIn text) ≡ count = omega (arith, length-entries (symbolsIn text)) in
           let n : length s₁ - count * 3 ≡ length s - length (entries (symbolsIn text)) = omega (arith, p .same) in

@@ -53,8 +53,7 @@ module _ {p : ℕ → Bool} {f : List ℕ → ℕ} (run : Run p f) where
       run-stops e = let z : f (drop i text) ≡ 0 = at-byte f text i h refl ∙ run .some _ _ ∙ rw e in omega arith
 
       pub run-goes-on : p (getD text i 0) ≡ true → Running text at (i + 1)
-      run-goes-on e =
-          let z : f (drop i text) ≡ suc (f (drop (i + 1) text)) = at-byte f text i h refl ∙ run .some _ _ ∙ rw e in
+      run-goes-on e = let z : f (drop i text) ≡ suc (f (drop (i + 1) text)) = at-byte f text i h refl ∙ run .some _ _ ∙ rw e in
           record { begun = omega arith; same = omega arith }
 
   -- ---- all of them

@@ -40,8 +40,7 @@ when-wrong (wrong a b) p q = cc
 newlines-append : (a b : List ℕ) → newlines (a ++ b) ≡ newlines a + newlines b
 unfolding newlines
 newlines-append [] b = let z : newlines b ≡ 0 + newlines b = omega arith in z
-newlines-append (c ∷ a) b =
-    by-cases (eqb c 10) (λ t. rw t (omega (arith, newlines-append a b))) (λ t. rw t (newlines-append a b))
+newlines-append (c ∷ a) b = by-cases (eqb c 10) (λ t. rw t (omega (arith, newlines-append a b))) (λ t. rw t (newlines-append a b))
 
 pub line-past : (text : List ℕ) (i w : ℕ) → lineOf text (i + w) ≡ lineOf text i + newlines (take w (drop i text))
 unfolding lineOf
@@ -81,9 +80,7 @@ module _ (text : List ℕ) (i : ℕ) where
     scan-here = rw cons
 
     scan-rest : (w : ℕ) → 1 ≤ w → scanFrom (w - 1) (suc i) (drop (i + 1) text) ≡ scanAt text (i + w)
-    scan-rest w o =
-        let a : suc i + (w - 1) ≡ i + w = omega arith in
-        let b : i + 1 + (w - 1) ≡ i + w = omega arith in
+    scan-rest w o = let a : suc i + (w - 1) ≡ i + w = omega arith in let b : i + 1 + (w - 1) ≡ i + w = omega arith in
         scan-over (w - 1) (suc i) (drop (i + 1) text) ∙ rw (a, drop-drop (w - 1) (i + 1) text, b)
 
     given-here : Given (drop i text) (cond (eqb (getD text i 0) 10) 1 0) (elementAt text i)
@@ -139,33 +136,30 @@ module _ (text : List ℕ) (at i : ℕ) {newline : Bool} (s : Seeking text at i 
 
     pub seek-symbol : {k v w : ℕ} → elementAt text i ≡ symbol k v w → Finds text at (N.One k v i (i + w) newline)
     unfolding scanBy IfOne
-    seek-symbol {k} {v} {w} e =
-        let g : Stood (drop i text) 0 w × (k < 62) × (v ≤ 65535 + w) = symbol-given text i h e in
-        record {
-          scans = s .scans ∙ scan-symbol text i h e;
-          found = record {
-            after = s .after;
-            some = omega (arith, g .0 .some);
-            within = symbol-inside text i h e;
-            known = g .1;
-            small = omega (arith, g .2);
-            breaks = s .breaks;
-            line = symbol-line text i h e;
-          };
-        }
+    seek-symbol {k} {v} {w} e = let g : Stood (drop i text) 0 w × (k < 62) × (v ≤ 65535 + w) = symbol-given text i h e in record {
+      scans = s .scans ∙ scan-symbol text i h e;
+      found = record {
+        after = s .after;
+        some = omega (arith, g .0 .some);
+        within = symbol-inside text i h e;
+        known = g .1;
+        small = omega (arith, g .2);
+        breaks = s .breaks;
+        line = symbol-line text i h e;
+      };
+    }
 
     module _ {w : ℕ} (e : elementAt text i ≡ gap w) where
       pub gap-inside : (1 ≤ w) × (i + w ≤ length text)
       gap-inside = let g : Stood (drop i text) _ w = gap-given text i h e in (g .some, omega (arith, g .within, length-drop i text))
 
       pub seek-gap : Seeking text at (i + w) (orNewline newline (getD text i 0))
-      seek-gap =
-          record {
-            after = omega (arith, s .after);
-            within = gap-inside .1;
-            scans = s .scans ∙ scan-gap text i h e;
-            breaks = by (eqb (getD text i 0) 10) (gap-given text i h e .line);
-          }
+      seek-gap = record {
+        after = omega (arith, s .after);
+        within = gap-inside .1;
+        scans = s .scans ∙ scan-gap text i h e;
+        breaks = by (eqb (getD text i 0) 10) (gap-given text i h e .line);
+      }
         where
           by : (t : Bool) → newlines (take w (drop i text)) ≡ cond t 1 0 → cond t true newline ≡ broken text at (i + w)
           by true k =

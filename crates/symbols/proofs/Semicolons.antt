@@ -41,8 +41,7 @@ module _ (text : List ℕ) (before at strings past : ℕ) where
       → following text before at strings (s .symbols) ≡ inserted (gain before kind (broken text at place)) (symbolOf kind number place)
       (symbolOf kind number place ∷ following text kind past strings′ ss)
   unfolding semicolonsAfter gains linesDiffer
-  following-symbol {s} {kind} {value} {place} {number} {strings′} {ss} e m n l =
-      ap (λ (t : Scan). following text before at strings (t .symbols)) e ∙
+  following-symbol {s} {kind} {value} {place} {number} {strings′} {ss} e m n l = ap (λ (t : Scan). following text before at strings (t .symbols)) e ∙
       ap (λ (r : List Symbol). semicolonsAfter text (symbolOf before 0 at) r) (numbered-one strings kind value place ss m n) ∙
       ap (λ (r : List Symbol). inserted (gain before kind (broken text at place)) (symbolOf kind number place) (symbolOf kind number place ∷ r))
       (after-line text kind number 0 place past (numbered strings′ ss) (sym l))
@@ -57,8 +56,7 @@ gain-breaks before kind t e = both-right (beginsLine kind) t (both-right (endsLi
 
 -- places on different lines are different
 apart : (text : List ℕ) (from to : ℕ) → from ≤ to → broken text from to ≡ true → from < to
-apart text from to h e =
-    by-order from to (λ l. l) (λ k.
+apart text from to h e = by-order from to (λ l. l) (λ k.
     let z : from ≡ to = omega arith in
     let y : true ≡ false = sym e ∙ ap not (eq-eqb (lineOf text from) (lineOf text to) (ap (lineOf text) z)) in
     contradiction cc)
@@ -69,8 +67,7 @@ inserted-length false s r = omega arith
 
 -- the symbols from a place on, after one that ended at or before it, with `fuel` bytes or fewer left
 abbrev Few : List ℕ → (fuel : ℕ) → Type 0
-Few text fuel =
-    (at before from strings : ℕ) → length text ≤ at + fuel → from ≤ at → at ≤ length text → length
+Few text fuel = (at before from strings : ℕ) → length text ≤ at + fuel → from ≤ at → at ≤ length text → length
     (following text before from strings (scanAt text at .symbols)) ≤ length text - from
 
 few-ended : (text : List ℕ) (before from strings : ℕ) (s : Scan) {f : Fault} → s ≡ ends f
@@ -83,8 +80,7 @@ few-more text fuel ih at before from strings h k l = go (ltb at (length text)) r
   where
     by : at < length text → (e : Element) → elementAt text at ≡ e
         → length (following text before from strings (scanAt text at .symbols)) ≤ length text - from
-    by i (symbol kind v w) e =
-        let g : Stood (drop at text) 0 w = symbol-given text at i e .0 in
+    by i (symbol kind v w) e = let g : Stood (drop at text) 0 w = symbol-given text at i e .0 in
         let n : at + w ≤ length text = omega (arith, g .within, length-drop at text) in
         let more = following text kind (at + w) (cond (eqb kind 61) (strings + 1) strings) (scanAt text (at + w) .symbols) in
         let q : length more ≤ length text - (at + w) = ih (at + w) kind (at + w) _ (omega (arith, g .some)) (omega arith) n in
@@ -95,8 +91,7 @@ few-more text fuel ih at before from strings h k l = go (ltb at (length text)) r
             → cond t 2 1 + m ≤ length text - from
         count true j g q = omega (arith, g .some, g .within, length-drop at text, apart text from at k (gain-breaks before kind _ j))
         count false j g q = omega (arith, g .some, g .within, length-drop at text)
-    by i (gap w) e =
-        let g : Stood (drop at text) _ w = gap-given text at i e in
+    by i (gap w) e = let g : Stood (drop at text) _ w = gap-given text at i e in
         rw (scan-gap text at i e) (ih (at + w) before from strings (omega (arith, g .some)) (omega arith)
         (omega (arith, g .within, length-drop at text)))
     by i (wrong n k) e = few-ended text before from strings (scanAt text at) (scan-wrong text at i e)

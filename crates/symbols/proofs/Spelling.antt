@@ -22,8 +22,7 @@ abbrev pub entryFor : ℕ → ℕ
 entryFor k = entryOf (k / 13) (k % 13)
 
 entry-is : (row column : ℕ) → row < 59 → column < 13 → getD (tabulate entryFor 0 767) (row * 13 + column) 0 ≡ entryOf row column
-entry-is row column h k =
-    let z : 0 + (row * 13 + column) ≡ row * 13 + column = omega arith in
+entry-is row column h k = let z : 0 + (row * 13 + column) ≡ row * 13 + column = omega arith in
     let e : (row * 13 + column) / 13 ≡ row = digits-div row k in
     let m : (row * 13 + column) % 13 ≡ column = digits-mod row k in
     tabulate-at entryFor 0 767 (row * 13 + column) (omega arith) ∙ rw (z, e, m)
@@ -104,8 +103,7 @@ asSign s = symbol (s .kind) 0 (length (s .spelling))
 
 sign-cons : (s : Spelled) (ss : List Spelled) (bs : List ℕ) → signIn (s ∷ ss) bs ≡ cond (begins (s .spelling) bs) (asSign s) (signIn ss bs)
 unfolding signIn
-sign-cons s ss bs =
-    elim (begins (s .spelling) bs) as (λ t. elim t [ true ↦ asSign s | false ↦ signIn ss bs ] ≡ cond t (asSign s) (signIn ss bs))
+sign-cons s ss bs = elim (begins (s .spelling) bs) as (λ t. elim t [ true ↦ asSign s | false ↦ signIn ss bs ] ≡ cond t (asSign s) (signIn ss bs))
     [ true ↦ refl | false ↦ refl ]
 
 module _ (bs : List ℕ) where
@@ -158,8 +156,7 @@ no-candidates : (ws : List Spelled) (byte : ℕ) (rest : List ℕ) → every let
     → candidatesIn ws (byte ∷ rest) ≡ []
 unfolding candidatesIn
 no-candidates [] byte rest t n = refl
-no-candidates (w ∷ ws) byte rest t n =
-    let b = both-true (lettered w) (every lettered nothing ws) t in
+no-candidates (w ∷ ws) byte rest t n = let b = both-true (lettered w) (every lettered nothing ws) t in
     by-cases (eqb (getD (w .spelling) 0 0) byte)
     (λ e. let q : member byte letters ≡ true = rw (← eqb-true (getD (w .spelling) 0 0) byte e) (b .0) in contradiction cc)
     (λ e. rw e (no-candidates ws byte rest (b .1) n))
@@ -206,8 +203,7 @@ module _ (text : List ℕ) (at width : ℕ) (h : at + width ≤ length text) whe
     module _ (k : row < past) (p : past ≤ 35) where
       row-cons : slice row past byLetter ≡ spelledAt row ∷ slice (row + 1) past byLetter
       unfolding spelled
-      row-cons =
-          slice-cons row past byLetter nothing k (omega (arith, words))
+      row-cons = slice-cons row past byLetter nothing k (omega (arith, words))
           ∙ rw (add-one, ← List·getD-append byLetter signs nothing row (omega (arith, words)))
 
       -- the words from this row on, by whether it has the word's length
@@ -222,37 +218,26 @@ module _ (text : List ℕ) (at width : ℕ) (h : at + width ≤ length text) whe
       left-cons e = rw (row-cons, taken [] text at width h, eq-eqb (length (spellingAt row)) width e)
 
       pub search-passes : (length (spellingAt row) ≡ width → ⊥) → Searching word past n (row + 1)
-      search-passes d = record {
-        few = omega (arith, s .few);
-        kind = s .kind ∙ rw (left-passed d);
-        count = s .count ∙ rw (left-passed d);
-      }
+      search-passes d = record { few = omega (arith, s .few); kind = s .kind ∙ rw (left-passed d); count = s .count ∙ rw (left-passed d) }
 
       module _ (e : length (spellingAt row) ≡ width) where
         pub search-finds : {k : ℕ} → k ≡ spelledAt row .kind → begins (spellingAt row) (drop at text) ≡ true
             → (k ≡ kindOf word) × (n + 1 ≡ compared word)
         unfolding comparedIn
-        search-finds q b =
-            let f : same (spellingAt row) word ≡ true = same-is (spellingAt row) text at width h e ∙ b in
+        search-finds q b = let f : same (spellingAt row) word ≡ true = same-is (spellingAt row) text at width h e ∙ b in
             (q ∙ sym (s .kind ∙ rw (left-cons e, kind-cons, f)), sym (s .count ∙ rw (left-cons e, f)))
 
         pub search-goes-on : begins (spellingAt row) (drop at text) ≡ false → Searching word past (n + 1) (row + 1)
         unfolding comparedIn
-        search-goes-on b =
-            let f : same (spellingAt row) word ≡ false = same-is (spellingAt row) text at width h e ∙ b in
+        search-goes-on b = let f : same (spellingAt row) word ≡ false = same-is (spellingAt row) text at width h e ∙ b in
             let left : ℕ = comparedIn (ofLength (length word) (slice (row + 1) past byLetter)) word in
             let add : n + suc left ≡ n + 1 + left = omega arith in
-            record {
-              few = omega (arith, s .few);
-              kind = s .kind ∙ rw (left-cons e, kind-cons, f);
-              count = s .count ∙ rw (left-cons e, f) add;
-            }
+            record { few = omega (arith, s .few); kind = s .kind ∙ rw (left-cons e, kind-cons, f); count = s .count ∙ rw (left-cons e, f) add }
 
 -- the search of all of some bytes
 pub search-all : (bs : List ℕ) {kind n : ℕ} → kind ≡ kindOf (take (length bs) (drop 0 bs)) → n ≡ compared (take (length bs) (drop 0 bs))
     → (kind ≡ kindOf bs) × ((n ≡ compared bs) × (n ≤ 3))
-search-all bs {n = n} p q =
-    let e : take (length bs) bs ≡ bs = take-length bs in
+search-all bs {n = n} p q = let e : take (length bs) bs ≡ bs = take-length bs in
     let c : n ≡ compared bs = rw (← e) q in
     (rw (← e) p, (c, omega (arith, compared-at-most-three bs)))
 

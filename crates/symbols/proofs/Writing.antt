@@ -31,36 +31,31 @@ module _ (s : List ℕ) (count kind value place : ℕ) (h : count * 3 + 3 ≤ le
 
   put-takes : {n : ℕ} → n ≡ count * 3 + 3
       → take n (sets s (count * 3) (kind ∷ value ∷ place ∷ [])) ≡ take (count * 3) s ++ (kind ∷ value ∷ place ∷ [])
-  put-takes {n} e =
-      let l : length (take (count * 3) s) ≡ count * 3 = length-take-le (count * 3) s (omega arith) in
-      rw (sets-eq (kind ∷ value ∷ place ∷ []) s (count * 3) h)
-      (take-at (take (count * 3) s ++ (kind ∷ value ∷ place ∷ [])) (drop (count * 3 + 3) s) n
+  put-takes {n} e = let l : length (take (count * 3) s) ≡ count * 3 = length-take-le (count * 3) s (omega arith) in
+      rw (sets-eq (kind ∷ value ∷ place ∷ []) s (count * 3) h) (take-at (take (count * 3) s ++ (kind ∷ value ∷ place ∷ [])) (drop (count * 3 + 3) s) n
       (length-append (take (count * 3) s) (kind ∷ value ∷ place ∷ []) ∙ (let z : length (take (count * 3) s) + 3 ≡ n = omega arith in z)))
 
 module _ (s : List ℕ) (count kind value place : ℕ) where
   pub writes-one : {s′ : List ℕ} → count * 3 + 3 ≤ length s → s′ ≡ sets s (count * 3) (kind ∷ value ∷ place ∷ [])
       → Writes count false kind value place s (count + 1) s′
   unfolding entries
-  writes-one h e =
-      rw e (record {
-        same = length-sets s (count * 3) (kind ∷ value ∷ place ∷ []);
-        counts = refl;
-        writes = put-takes s count kind value place h (let z : (count + 1) * 3 ≡ count * 3 + 3 = omega arith in z);
-      })
+  writes-one h e = rw e (record {
+    same = length-sets s (count * 3) (kind ∷ value ∷ place ∷ []);
+    counts = refl;
+    writes = put-takes s count kind value place h (let z : (count + 1) * 3 ≡ count * 3 + 3 = omega arith in z);
+  })
 
   pub writes-two : {s₁ s₂ : List ℕ} → count * 3 + 6 ≤ length s → s₁ ≡ sets s (count * 3) (54 ∷ 0 ∷ place ∷ [])
       → s₂ ≡ sets s₁ ((count + 1) * 3) (kind ∷ value ∷ place ∷ [])
       → Writes count true kind value place s (count + 2) s₂
   unfolding entries
-  writes-two {s₁} {s₂} h p q =
-      let n : length s₁ ≡ length s = ap length p ∙ length-sets s (count * 3) (54 ∷ 0 ∷ place ∷ []) in
+  writes-two {s₁} {s₂} h p q = let n : length s₁ ≡ length s = ap length p ∙ length-sets s (count * 3) (54 ∷ 0 ∷ place ∷ []) in
       let a : take ((count + 1) * 3) s₁ ≡ take (count * 3) s ++ (54 ∷ 0 ∷ place ∷ []) = ap (take ((count + 1) * 3)) p ∙ put-takes s count 54 0 place
       (omega arith) (let z : (count + 1) * 3 ≡ count * 3 + 3 = omega arith in z) in
       record {
         same = ap length q ∙ length-sets s₁ ((count + 1) * 3) (kind ∷ value ∷ place ∷ []) ∙ n;
         counts = refl;
-        writes =
-            ap (take ((count + 2) * 3)) q ∙ put-takes s₁ (count + 1) kind value place (omega arith)
+        writes = ap (take ((count + 2) * 3)) q ∙ put-takes s₁ (count + 1) kind value place (omega arith)
             (let z : (count + 2) * 3 ≡ (count + 1) * 3 + 3 = omega arith in z) ∙
             ap (λ (l : List ℕ). l ++ (kind ∷ value ∷ place ∷ [])) a ∙ append-assoc (take (count * 3) s) (54 ∷ 0 ∷ place ∷ [])
             (kind ∷ value ∷ place ∷ []);
@@ -93,15 +88,14 @@ pub record Putting (text s₀ : List ℕ) (at count before strings : ℕ) (s : L
 
 pub putting-start : (text s : List ℕ) → length text * 3 ≤ length s → Putting text s 0 0 0 0 s
 unfolding symbolsIn scan
-putting-start text s h =
-    record {
-      same = refl;
-      room = h;
-      fits = omega arith;
-      strings-few = omega arith;
-      known = omega arith;
-      writes = ap entries (sym (first-after text 0 (numbered 0 (scan text .symbols))));
-    }
+putting-start text s h = record {
+  same = refl;
+  room = h;
+  fits = omega arith;
+  strings-few = omega arith;
+  known = omega arith;
+  writes = ap entries (sym (first-after text 0 (numbered 0 (scan text .symbols))));
+}
 
 -- three entries for each of one symbol or two
 thrice : (two : Bool) → (cond two 6 3 ≡ 3 * cond two 2 1) × (1 ≤ cond two 2 1)
@@ -115,8 +109,7 @@ module _ (text s₀ : List ℕ) (at count before strings : ℕ) (s : List ℕ) (
 
   pub putting-end : next ≡ N.End → take (count * 3) s ≡ entries (symbolsIn text)
   unfolding scanBy entries numbered semicolonsAfter
-  putting-end e =
-      sym (append-nil (take (count * 3) s)) ∙
+  putting-end e = sym (append-nil (take (count * 3) s)) ∙
       ap (λ (t : Scan). take (count * 3) s ++ entries (following text before at strings (t .symbols))) (sym (scan-is f e)) ∙ p .writes
 
   module _ {kind value place past : ℕ} {newline : Bool} (e : next ≡ N.One kind value place past newline) where
@@ -126,8 +119,7 @@ module _ (text s₀ : List ℕ) (at count before strings : ℕ) (s : List ℕ) (
           → rest text at before strings ≡ entries (inserted semicolon (symbolOf kind number place) (symbolOf kind number place ∷ [])) ++ rest text
           past kind strings′
       unfolding scanBy
-      next-entries {number} {strings′} m n =
-          let more = following text kind past strings′ (scanAt text past .symbols) in
+      next-entries {number} {strings′} m n = let more = following text kind past strings′ (scanAt text past .symbols) in
           ap entries (following-symbol text before at strings past (scan-is f e) m n (found f e .line)) ∙
           ap (λ (t : Bool). entries (inserted t (symbolOf kind number place) (symbolOf kind number place ∷ more)))
           (sym (g ∙ ap (gain before kind) (found f e .breaks))) ∙
@@ -135,59 +127,50 @@ module _ (text s₀ : List ℕ) (at count before strings : ℕ) (s : List ℕ) (
 
       -- there is room for it, since the symbols are no more than the bytes
       pub room-for : count * 3 + cond semicolon 6 3 ≤ length s
-      room-for =
-          let number = cond (eqb kind 61) strings value in
-          let strings′ = cond (eqb kind 61) (strings + 1) strings in
-          omega (
-            arith,
-            taken,
-            p .same,
-            p .room,
-            few text,
-            length-entries (symbolsIn text),
-            simp length-append at (ap length (p .writes)),
-            simp length-append at (ap length (next-entries refl refl)),
-            length-inserted semicolon (symbolOf kind number place),
-          )
+      room-for = let number = cond (eqb kind 61) strings value in let strings′ = cond (eqb kind 61) (strings + 1) strings in omega (
+        arith,
+        taken,
+        p .same,
+        p .room,
+        few text,
+        length-entries (symbolsIn text),
+        simp length-append at (ap length (p .writes)),
+        simp length-append at (ap length (next-entries refl refl)),
+        length-inserted semicolon (symbolOf kind number place),
+      )
 
       module _ {number strings′ count′ : ℕ} {s′ : List ℕ} (m : number ≡ cond (eqb kind 61) strings value)
-          (n : strings′ ≡ cond (eqb kind 61) (strings + 1) strings)
-          (w : Writes count semicolon kind number place s count′ s′) where
+          (n : strings′ ≡ cond (eqb kind 61) (strings + 1) strings) (w : Writes count semicolon kind number place s count′ s′) where
         pub putting-on : Putting text s₀ past count′ kind strings′ s′
-        putting-on =
-            record {
-              same = w .same ∙ p .same;
-              room = p .room;
-              fits = omega (arith, room-for, w .counts, w .same, thrice semicolon);
-              strings-few = omega (
-                arith,
-                w .counts,
-                p .strings-few,
-                thrice semicolon,
-                by-cond (λ k. k ≤ strings + 1) (eqb kind 61) {x = strings + 1} {y = strings} (omega arith) (omega arith),
-              );
-              known = found f e .known;
-              writes =
-                  ap (λ (l : List ℕ). l ++ rest text past kind strings′) (w .writes) ∙
-                  append-assoc (take (count * 3) s) _ _ ∙
-                  ap (λ (l : List ℕ). take (count * 3) s ++ l) (sym (next-entries m n)) ∙ p .writes;
-            }
+        putting-on = record {
+          same = w .same ∙ p .same;
+          room = p .room;
+          fits = omega (arith, room-for, w .counts, w .same, thrice semicolon);
+          strings-few = omega (
+            arith,
+            w .counts,
+            p .strings-few,
+            thrice semicolon,
+            by-cond (λ k. k ≤ strings + 1) (eqb kind 61) {x = strings + 1} {y = strings} (omega arith) (omega arith),
+          );
+          known = found f e .known;
+          writes = ap (λ (l : List ℕ). l ++ rest text past kind strings′) (w .writes) ∙ append-assoc (take (count * 3) s) _ _ ∙
+              ap (λ (l : List ℕ). take (count * 3) s ++ l) (sym (next-entries m n)) ∙ p .writes;
+        }
 
       -- what `write` and the count of strings ask for
       module _ (h : length text ≤ 16384) where
         counted : count < 16384
-        counted =
-            let number = cond (eqb kind 61) strings value in
-            omega (
-              arith,
-              taken,
-              few text,
-              length-entries (symbolsIn text),
-              simp length-append at (ap length (p .writes)),
-              simp length-append at (ap length (next-entries refl refl)),
-              length-inserted semicolon (symbolOf kind number place),
-              thrice semicolon,
-            )
+        counted = let number = cond (eqb kind 61) strings value in omega (
+          arith,
+          taken,
+          few text,
+          length-entries (symbolsIn text),
+          simp length-append at (ap length (p .writes)),
+          simp length-append at (ap length (next-entries refl refl)),
+          length-inserted semicolon (symbolOf kind number place),
+          thrice semicolon,
+        )
 
         pub strings-fit : strings < 16384
         strings-fit = omega (arith, p .strings-few, counted)

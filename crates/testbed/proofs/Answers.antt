@@ -25,8 +25,7 @@ use Rattle.compiler.specs.declared.Compiled.the-variants as C
 
 -- a run's numbers, with a flag made of whether anything was stored
 abbrev toldNumbers : Ran → ℕ → List ℕ
-toldNumbers ran flag =
-    let r = ran .registers in
+toldNumbers ran flag = let r = ran .registers in
     ran .stop ∷ ran .count ∷ r .taken ∷ r .written ∷ r .a ∷ r .b ∷ r .c ∷ r .p ∷ r .g ∷ flag ∷ r .from ∷ r .words ∷ []
 
 pub told : (ran : Ran) {flag : ℕ} → flag ≡ flagOf (ran .registers .stored) → toldNumbers ran flag ≡ ranNumbers ran
@@ -35,12 +34,11 @@ told ran e = ap (λ (f : ℕ). toldNumbers ran f) e
 -- a run's answer, told
 pub run-exported : {o : Outcome} {r : Ran} {memory output numbers : List ℕ} → Ends o r memory output → numbers ≡ ranNumbers r
     → RunExported o memory output numbers
-run-exported e q =
-    record {
-      stores = e .stores;
-      writes = e .writes;
-      answers = q ∙ ap ranNumbers (λ i. record { stop = e .stops i; count = e .counts i; registers = e .leaves i });
-    }
+run-exported e q = record {
+  stores = e .stores;
+  writes = e .writes;
+  answers = q ∙ ap ranNumbers (λ i. record { stop = e .stops i; count = e .counts i; registers = e .leaves i });
+}
 
 -- an assembly's answer, told
 pub assemble-exported : {text memory : List ℕ} {table : List Label} {answer : Assembled} {memory′ : List ℕ} {table′ : List Label} {numbers : List ℕ}
@@ -75,11 +73,10 @@ tree-refused {text} {count} {scratch} {number = number} {place = place} {scratch
 -- what comes after the symbols, whose answer is matched
 pub after-symbols : {text scratch : List ℕ} {answer matched : SymbolsRead} {between scratch′ numbers : List ℕ} → Reads text scratch answer between
     → answer ≡ matched → AfterSymbols text between scratch′ numbers matched → TreeExported text scratch scratch′ numbers
-after-symbols {text} {matched = matched} {scratch′ = scratch′} {numbers = numbers} e q h =
-    record {
-      after = subst (AfterSymbols text _ scratch′ numbers) (sym q ∙ e .answers)
-          (subst (λ (s : List ℕ). AfterSymbols text s scratch′ numbers matched) (e .leaves) h);
-    }
+after-symbols {text} {matched = matched} {scratch′ = scratch′} {numbers = numbers} e q h = record {
+  after = subst (AfterSymbols text _ scratch′ numbers) (sym q ∙ e .answers)
+      (subst (λ (s : List ℕ). AfterSymbols text s scratch′ numbers matched) (e .leaves) h);
+}
 
 -- a refused symbol, with the line that was found
 pub symbol-refused : {text scratch : List ℕ} {answer : SymbolsRead} {number place line : ℕ} {scratch′ : List ℕ} → Reads text scratch answer scratch′
@@ -98,9 +95,8 @@ same-numbers source (refused number place) = refl
 
 pub compile-exported : {source scratch scratch′ text text′ : List ℕ} {answer matched : Compiled} → Compiles source scratch scratch′ text text′ answer
     → answer ≡ matched → CompileExported source scratch scratch′ text text′ (numbersOf matched)
-compile-exported {source} {scratch} {scratch′} {text} {text′} {answer} {matched} e q =
-    record {
-      clears = e .clears;
-      writes = e .writes;
-      answers = ap numbersOf (sym q ∙ e .answers) ∙ same-numbers source (decided source (length scratch) (length text));
-    }
+compile-exported {source} {scratch} {scratch′} {text} {text′} {answer} {matched} e q = record {
+  clears = e .clears;
+  writes = e .writes;
+  answers = ap numbersOf (sym q ∙ e .answers) ∙ same-numbers source (decided source (length scratch) (length text));
+}

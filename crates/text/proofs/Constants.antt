@@ -16,14 +16,12 @@ use Rattle.text.proofs.Quotes.{onward, quoted-next, quoted-end, quoted-
 module _ (quote : ℕ) (text : List ℕ) (i : ℕ) where
   pub closes-next : {v w : ℕ} → character quote (drop i text) ≡ is v w
       → isClosed (quoted quote 0 0 (drop i text)) ≡ isClosed (quoted quote 0 0 (drop (i + w) text))
-  closes-next {v} {w} e =
-      ap isClosed (quoted-full quote (drop i text) e) ∙ closed-fault 43 (quoted quote 0 0 (drop w (drop i text))) ∙
+  closes-next {v} {w} e = ap isClosed (quoted-full quote (drop i text) e) ∙ closed-fault 43 (quoted quote 0 0 (drop w (drop i text))) ∙
       ap (λ (l : List ℕ). isClosed (quoted quote 0 0 l)) (drop-drop w i text)
 
   pub closes-mistake : {number : ℕ} → character quote (drop i text) ≡ mistake number
       → isClosed (quoted quote 0 0 (drop i text)) ≡ isClosed (quoted quote 0 0 (drop (i + 1) text))
-  closes-mistake {number} e =
-      ap isClosed (quoted-mistake quote 0 (drop i text) e) ∙ closed-fault number (quoted quote 0 0 (drop 1 (drop i text))) ∙
+  closes-mistake {number} e = ap isClosed (quoted-mistake quote 0 (drop i text) e) ∙ closed-fault number (quoted quote 0 0 (drop 1 (drop i text))) ∙
       ap (λ (l : List ℕ). isClosed (quoted quote 0 0 l)) (drop-drop 1 i text)
 
   pub closes-end : character quote (drop i text) ≡ closing → isClosed (quoted quote 0 0 (drop i text)) ≡ true
@@ -86,14 +84,11 @@ module _ (quote room : ℕ) (text : List ℕ) (at i n : ℕ) where
   pub constant-next : {v w : ℕ} → character quote (drop i text) ≡ is v w → n < room → at ≤ i
       → left ≡ added (n + 1) (i + w - at) (asQuoted (quoted quote (room - (n + 1)) 0 (drop (i + w) text)))
   unfolding asQuoted
-  constant-next {v} {w} e l h =
-      let z : room - n ≡ suc (room - (n + 1)) = omega arith in
+  constant-next {v} {w} e l h = let z : room - n ≡ suc (room - (n + 1)) = omega arith in
       rw (z, quoted-next quote (room - (n + 1)) (drop i text) e, drop-drop w i text) (by (quoted quote (room - (n + 1)) 0 (drop (i + w) text)))
     where
       by : (q : Quoted) → added n (i - at) (asQuoted (onward v w q)) ≡ added (n + 1) (i + w - at) (asQuoted q)
-      by (closed cs m) =
-          let a : n + suc (length cs) ≡ n + 1 + length cs = omega arith in
-          let b : i - at + (w + m) ≡ i + w - at + m = omega arith in
+      by (closed cs m) = let a : n + suc (length cs) ≡ n + 1 + length cs = omega arith in let b : i - at + (w + m) ≡ i + w - at + m = omega arith in
           cc
       by unclosed = refl
       by (faulty k m) = ap (Faulty k) (omega arith)
@@ -112,8 +107,7 @@ module _ (quote room : ℕ) (text : List ℕ) (at i n : ℕ) where
 
   module _ (number : ℕ) (q : Quoted) (e : quoted quote (room - n) 0 (drop i text) ≡ faultBefore number q) where
     faulted : isClosed (quoted quote 0 0 (drop i text)) ≡ isClosed q
-    faulted =
-        sym (closed-alike quote (room - n) 0 (drop i text)) ∙ ap isClosed e ∙ closed-fault number q
+    faulted = sym (closed-alike quote (room - n) 0 (drop i text)) ∙ ap isClosed e ∙ closed-fault number q
 
     constant-fault : asQuoted (widened (i - at) (faultBefore number (quoted quote 0 0 (drop i text)))) ≡ left
     constant-fault = rw (fault-alike number (quoted quote 0 0 (drop i text)) q faulted, e) (moved number q)
@@ -134,8 +128,7 @@ pub closed-inside : (quote room : ℕ) (text : List ℕ) (at : ℕ) {n w : ℕ} 
 closed-inside quote room text at {n} {w} h =
     let k : Q.Closed room 0 (length (drop at text)) (h .characters) w = Q.is-closed quote room 0 (drop at text) (h .is) in
     let e : n ≡ length (h .characters) = h .count in
-    let l : length (drop at text) ≡ length text - at = length-drop at text in
-    (omega arith, omega arith, omega arith)
+    let l : length (drop at text) ≡ length text - at = length-drop at text in (omega arith, omega arith, omega arith)
 
 -- ---- one that is closed, from a place on: a character and the rest, or the closing quote
 
@@ -156,13 +149,11 @@ module _ (quote room : ℕ) (text : List ℕ) (i : ℕ) {cs : List ℕ} {w : ℕ
     where
       by : (a : ℕ) → quoted quote a 0 (drop i text) ≡ closed cs w → Continues quote a text (i + k) v k cs w
       by zero j = no-fault 43 (quoted quote 0 0 (drop k (drop i text))) (sym (quoted-full quote (drop i text) e) ∙ j)
-      by (suc a) j =
-          go (quoted quote a 0 (drop (i + k) text)) refl
+      by (suc a) j = go (quoted quote a 0 (drop (i + k) text)) refl
           (ap (λ (l : List ℕ). onward v k (quoted quote a 0 l)) (sym (drop-drop k i text)) ∙ sym (quoted-next quote a (drop i text) e) ∙ j)
         where
           go : (q : Quoted) → quoted quote a 0 (drop (i + k) text) ≡ q → onward v k q ≡ closed cs w → Continues quote (suc a) text (i + k) v k cs w
-          go (closed ds n) f g =
-              let b : length ds ≤ a = Q.is-closed quote a 0 (drop (i + k) text) f .short in
+          go (closed ds n) f g = let b : length ds ≤ a = Q.is-closed quote a 0 (drop (i + k) text) f .short in
               record { rest = ds; width = n; more = Q.with-room quote a (suc a) 0 (drop (i + k) text) f (omega arith); are = cc; wide = cc }
           go unclosed f g = contradiction cc
           go (faulty number n) f g = contradiction cc
@@ -171,8 +162,7 @@ module _ (quote room : ℕ) (text : List ℕ) (i : ℕ) {cs : List ℕ} {w : ℕ
   closed-end e = let y : closed [] 1 ≡ closed cs w = sym (quoted-end quote room (drop i text) e) ∙ h in cc
 
   pub closed-goes-on : character quote (drop i text) ≡ ended → ⊥
-  closed-goes-on e =
-      let y : unclosed ≡ closed cs w = sym (quoted-ended quote room (drop i text) e) ∙ h in
+  closed-goes-on e = let y : unclosed ≡ closed cs w = sym (quoted-ended quote room (drop i text) e) ∙ h in
       contradiction cc
 
   pub closed-right : {number : ℕ} → character quote (drop i text) ≡ mistake number → ⊥

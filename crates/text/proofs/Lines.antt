@@ -15,8 +15,7 @@ module _ (text : List ℕ) (place : ℕ) where
 
   pub between-none : (i : ℕ) → i ≡ place → between text place i ≡ 0
   unfolding between newlines
-  between-none i e =
-      let z : place - i ≡ 0 = omega arith in
+  between-none i e = let z : place - i ≡ 0 = omega arith in
       rw z
 
   pub between-past : (i : ℕ) → length text ≤ i → between text place i ≡ 0
@@ -25,9 +24,7 @@ module _ (text : List ℕ) (place : ℕ) where
 
   module _ (i : ℕ) (inside : i < length text) (before : i < place) where
     opened : take (place - i) (drop i text) ≡ getD text i 0 ∷ take (place - (i + 1)) (drop (i + 1) text)
-    opened =
-        let n : place - i ≡ suc (place - (i + 1)) = omega arith in
-        rw (n, drop-cons text i 0 inside, add-one)
+    opened = let n : place - i ≡ suc (place - (i + 1)) = omega arith in rw (n, drop-cons text i 0 inside, add-one)
 
     pub between-newline : getD text i 0 ≡ 10 → between text place i ≡ suc (between text place (i + 1))
     unfolding between newlines

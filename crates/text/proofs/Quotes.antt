@@ -30,8 +30,7 @@ module _ (quote c : ℕ) (r : List ℕ) where
 
       pub at-high : 126 < c → character quote (c ∷ r) ≡ mistake 42
       unfolding character
-      at-high h =
-          let k : 32 ≤ c = omega arith in
+      at-high h = let k : 32 ≤ c = omega arith in
           rw (ne-eqb c quote other, ne-eqb c 42 no-escape, ne-eqb c 10 (λ n. omega arith), le-leb 32 c k, lt-leb c 126 h)
 
       pub at-plain : 32 ≤ c → c ≤ 126 → character quote (c ∷ r) ≡ is c 1
@@ -40,18 +39,17 @@ module _ (quote c : ℕ) (r : List ℕ) where
 
 pub no-letter : (c : ℕ) (r : List ℕ) → Unlike c (34 ∷ 39 ∷ 42 ∷ 67 ∷ 80 ∷ 66 ∷ 84 ∷ 83 ∷ 78 ∷ []) → escape (c ∷ r) ≡ byNumber (c ∷ r)
 unfolding escape
-no-letter c r h =
-    rw (
-      ne-eqb c 78 (h .0 .0 .0 .0 .0 .0 .0 .0 .1),
-      ne-eqb c 83 (h .0 .0 .0 .0 .0 .0 .0 .1),
-      ne-eqb c 84 (h .0 .0 .0 .0 .0 .0 .1),
-      ne-eqb c 66 (h .0 .0 .0 .0 .0 .1),
-      ne-eqb c 80 (h .0 .0 .0 .0 .1),
-      ne-eqb c 67 (h .0 .0 .0 .1),
-      ne-eqb c 42 (h .0 .0 .1),
-      ne-eqb c 39 (h .0 .1),
-      ne-eqb c 34 (h .1),
-    )
+no-letter c r h = rw (
+  ne-eqb c 78 (h .0 .0 .0 .0 .0 .0 .0 .0 .1),
+  ne-eqb c 83 (h .0 .0 .0 .0 .0 .0 .0 .1),
+  ne-eqb c 84 (h .0 .0 .0 .0 .0 .0 .1),
+  ne-eqb c 66 (h .0 .0 .0 .0 .0 .1),
+  ne-eqb c 80 (h .0 .0 .0 .0 .1),
+  ne-eqb c 67 (h .0 .0 .0 .1),
+  ne-eqb c 42 (h .0 .0 .1),
+  ne-eqb c 39 (h .0 .1),
+  ne-eqb c 34 (h .1),
+)
 
 -- at a place of a text
 module _ (text : List ℕ) (at : ℕ) where
@@ -77,8 +75,7 @@ module _ (text : List ℕ) (at : ℕ) where
 -- ---- a character by its number
 
 pub digit-bounds : (c : ℕ) → digit c ≡ true → (48 ≤ c) × (c ≤ 57)
-digit-bounds c e =
-    by-cases (leb 48 c) (λ l. (leb-true 48 c l, leb-true c 57 (rw l at e))) (λ l. let z : false ≡ true = rw l at e in contradiction cc)
+digit-bounds c e = by-cases (leb 48 c) (λ l. (leb-true 48 c l, leb-true c 57 (rw l at e))) (λ l. let z : false ≡ true = rw l at e in contradiction cc)
 
 pub digit-least : (c : ℕ) → digit c ≡ true → 48 ≤ c
 digit-least c e = digit-bounds c e .0
@@ -111,8 +108,7 @@ module _ (a b c : ℕ) where
 module _ (text : List ℕ) (at : ℕ) where
   pub three-bytes : at + 3 ≤ length text → byNumber (drop at text) ≡ byDigits (getD text at 0) (getD text (at + 1) 0) (getD text (at + 2) 0)
   unfolding byNumber
-  three-bytes h =
-      let e : at + 1 + 1 ≡ at + 2 = omega arith in
+  three-bytes h = let e : at + 1 + 1 ≡ at + 2 = omega arith in
       at-byte byNumber text at (omega arith) refl ∙
       at-byte (λ (l : List ℕ). byNumber (getD text at 0 ∷ l)) text (at + 1) (omega arith) refl ∙
       at-byte (λ (l : List ℕ). byNumber (getD text at 0 ∷ getD text (at + 1) 0 ∷ l)) text (at + 1 + 1) (omega arith) (rw e)
@@ -160,10 +156,8 @@ unfolding byNumber byDigits
 number-written [] = record { fits = tt }
 number-written (a ∷ []) = record { fits = tt }
 number-written (a ∷ b ∷ []) = record { fits = tt }
-number-written (a ∷ b ∷ c ∷ r) =
-    either (Fits _) (digit a && (digit b && (digit c && leb (numberOf a b c) 255)))
-    (λ e. record { fits = record { some = omega arith; within = omega arith; one = small e } })
-    (λ _. record { fits = tt })
+number-written (a ∷ b ∷ c ∷ r) = either (Fits _) (digit a && (digit b && (digit c && leb (numberOf a b c) 255)))
+    (λ e. record { fits = record { some = omega arith; within = omega arith; one = small e } }) (λ _. record { fits = tt })
   where
     small : (digit a && (digit b && (digit c && leb (numberOf a b c) 255))) ≡ true → numberOf a b c ≤ 255
     small e = leb-true (numberOf a b c) 255 (both-true (digit c) _ (both-true (digit b) _ (both-true (digit a) _ e .1) .1) .1)
@@ -181,14 +175,9 @@ escape-written (c ∷ r) =
 character-written : (quote : ℕ) (bytes : List ℕ) → Fits (length bytes) (character quote bytes)
 unfolding character
 character-written quote [] = record { fits = tt }
-character-written quote (c ∷ r) =
-    either (Fits _) (eqb c quote) (λ _. record { fits = tt })
-    (λ _. either (Fits _) (eqb c 42) (λ _. escape-written r)
-    (λ _. either (Fits _) (eqb c 10) (λ _. record { fits = tt })
-    (λ _. either (Fits _) (leb 32 c)
-    (λ _. either (Fits _) (leb c 126)
-    (λ h. record { fits = record { some = omega arith; within = omega arith; one = omega (arith, leb-true c 126 h) } })
-    (λ _. record { fits = tt }))
+character-written quote (c ∷ r) = either (Fits _) (eqb c quote) (λ _. record { fits = tt }) (λ _. either (Fits _) (eqb c 42) (λ _. escape-written r)
+    (λ _. either (Fits _) (eqb c 10) (λ _. record { fits = tt }) (λ _. either (Fits _) (leb 32 c) (λ _. either (Fits _) (leb c 126)
+    (λ h. record { fits = record { some = omega arith; within = omega arith; one = omega (arith, leb-true c 126 h) } }) (λ _. record { fits = tt }))
     (λ _. record { fits = tt }))))
 
 pub is-written : (quote : ℕ) (bytes : List ℕ) {v w : ℕ} → character quote bytes ≡ is v w → Written (length bytes) v w
@@ -197,10 +186,8 @@ is-written quote bytes e = (rw e at (character-written quote bytes)) .fits
 -- at a place of a text
 module _ (quote : ℕ) (text : List ℕ) (at : ℕ) where
   pub is-inside : {v w : ℕ} → character quote (drop at text) ≡ is v w → (1 ≤ w) × (at + w ≤ length text)
-  is-inside {v} {w} e =
-      let h : Written (length (drop at text)) v w = is-written quote (drop at text) e in
-      let l : length (drop at text) ≡ length text - at = length-drop at text in
-      (h .some, omega arith)
+  is-inside {v} {w} e = let h : Written (length (drop at text)) v w = is-written quote (drop at text) e in
+      let l : length (drop at text) ≡ length text - at = length-drop at text in (h .some, omega arith)
 
   some-inside : (character quote (drop at text) ≡ ended → ⊥) → at < length text
   unfolding character
@@ -248,8 +235,7 @@ module _ (quote room : ℕ) where
   unfolding quoted
   quoted-next [] {v = v} {w = w} e = absurd (let h : Written 0 v w = is-written quote [] e in omega arith)
   quoted-next (c ∷ r) {v = v} {w = zero} e = absurd (let h : Written (suc (length r)) v zero = is-written quote (c ∷ r) e in omega arith)
-  quoted-next (c ∷ r) {v = v} {w = suc w} e =
-      let z : suc w - 1 ≡ w = omega arith in
+  quoted-next (c ∷ r) {v = v} {w = suc w} e = let z : suc w - 1 ≡ w = omega arith in
       rw (e, z, quoted-over quote room w r) (after-widened v w (quoted quote room 0 (drop w r)))
 
   pub quoted-end : (bytes : List ℕ) → character quote bytes ≡ closing → quoted quote room 0 bytes ≡ closed [] 1
@@ -274,8 +260,7 @@ pub quoted-full : (quote : ℕ) (bytes : List ℕ) {v w : ℕ} → character quo
 unfolding quoted
 quoted-full quote [] {v = v} {w = w} e = absurd (let h : Written 0 v w = is-written quote [] e in omega arith)
 quoted-full quote (c ∷ r) {v = v} {w = zero} e = absurd (let h : Written (suc (length r)) v zero = is-written quote (c ∷ r) e in omega arith)
-quoted-full quote (c ∷ r) {v = v} {w = suc w} e =
-    let z : suc w - 1 ≡ w = omega arith in
+quoted-full quote (c ∷ r) {v = v} {w = suc w} e = let z : suc w - 1 ≡ w = omega arith in
     rw (e, z, quoted-over quote 0 w r) (fault-widened 43 w (quoted quote 0 0 (drop w r)))
 
 -- ---- whether a constant is closed, however much room there is
@@ -292,19 +277,16 @@ closed-fault number = elim [ closed cs n ↦ refl | unclosed ↦ refl | faulty k
 pub closed-alike : (quote room k : ℕ) (bytes : List ℕ) → isClosed (quoted quote room k bytes) ≡ isClosed (quoted quote 0 k bytes)
 unfolding quoted
 closed-alike quote room k [] = refl
-closed-alike quote room (suc k) (c ∷ r) =
-    closed-wider (quoted quote room k r) ∙ closed-alike quote room k r ∙ sym (closed-wider (quoted quote 0 k r))
+closed-alike quote room (suc k) (c ∷ r) = closed-wider (quoted quote room k r) ∙ closed-alike quote room k r ∙ sym (closed-wider (quoted quote 0 k r))
 closed-alike quote room zero (c ∷ r) = by (character quote (c ∷ r)) room (λ a k. closed-alike quote a k r)
   where
     by : (ch : Character) (room : ℕ) → ((a k : ℕ) → isClosed (quoted quote a k r) ≡ isClosed (quoted quote 0 k r))
         → isClosed (onCharacter ch room (λ a k. quoted quote a k r)) ≡ isClosed (onCharacter ch 0 (λ a k. quoted quote a k r))
     by (is v w) zero more = refl
-    by (is v w) (suc a) more =
-        closed-after v (quoted quote a (w - 1) r) ∙ more a (w - 1) ∙ sym (closed-fault 43 (quoted quote 0 (w - 1) r))
+    by (is v w) (suc a) more = closed-after v (quoted quote a (w - 1) r) ∙ more a (w - 1) ∙ sym (closed-fault 43 (quoted quote 0 (w - 1) r))
     by closing room more = refl
     by ended room more = refl
-    by (mistake number) room more =
-        closed-fault number (quoted quote room 0 r) ∙ more room 0 ∙ sym (closed-fault number (quoted quote 0 0 r))
+    by (mistake number) room more = closed-fault number (quoted quote room 0 r) ∙ more room 0 ∙ sym (closed-fault number (quoted quote 0 0 r))
 
 -- ---- what every constant of n bytes satisfies, k of them passed over first, if it is closed; and a fault in it is at one of its bytes
 

@@ -48,14 +48,11 @@ module _ {M : Type 1} (𝓤 : URA M) (H : Heap 𝓤) (A : Atoms 𝓤) (W : Given
     module _ (R : Out (c .n) (c .ps) (c .r)) (x : Bound 𝓤 H A S) (v : Val) (z : resT (c .r) (x .0) .Denot) where
       -- what holds after the call, where its result and the last values are known
       abbrev After : Lasts ends (x .0) (x .3) → SProp 𝓤
-      After ws =
-          sep 𝓤 (sep 𝓤 (sem 𝓤 H A (lasts ends (x .0) (x .3) ws))
+      After ws = sep 𝓤 (sep 𝓤 (sem 𝓤 H A (lasts ends (x .0) (x .3) ws))
           (fact 𝓤 (Fit ends (stays (c .ps)) (x .0) (x .3) ws × R (x .0) (x .3) z (atExit ends (x .0) (x .3) ws)))) (Back 𝓤 H A S x v z)
 
     remembers : Knows c → Knows (with-asked c)
-    remembers known y =
-        let x : Bound 𝓤 H A S = y .0 in
-        let before = knownOf 𝓤 H A (c .n) (c .ps) (c .r) (c .asks) (c .learnt) in
+    remembers known y = let x : Bound 𝓤 H A S = y .0 in let before = knownOf 𝓤 H A (c .n) (c .ps) (c .r) (c .asks) (c .learnt) in
         let after = After (with-asked c .learnt) x in
         fact-use 𝓤 (c .asks (x .0) (x .3)) (snd∗ 𝓤 (onEntry 𝓤 H A S (x .0) (x .1) (x .3) (x .4)) (fact 𝓤 (c .asks (x .0) (x .3)))) (λ p.
         via 𝓤 (𝓣 .C (c .name) (before .args y) (before .post y)) (known y) (𝓣 .mono (c .name) (before .args y) (before .post y)

@@ -34,8 +34,7 @@ assignment-read src size x lo {n} {v} {p} {t} {s} {s₁} {s₂} {s₃} {s₄} {r
     (λ i q. onOut (C.further (readers (within x)) y src q) (λ ds w. ok (T.assignment (T.andExpression e es) (T.andExpression i ds)) w))) (g .many)
     ∙ argument-first x src t at (T.assignment (T.andExpression e es)))
     (follow size c (goes-on d then adds-on f) (λ put w h q₂. bind size encodeExpressions d (adds-on f) (λ ds q₃. added size f (record {
-      same = sym (
-          ap (λ (y : List ℕ). encode e ++ (y ++ (w ++ (encodeExpressions ds ++ recordFrom lo v p K.ASSIGN (freeOf size r₄))))) (g .same)
+      same = sym (ap (λ (y : List ℕ). encode e ++ (y ++ (w ++ (encodeExpressions ds ++ recordFrom lo v p K.ASSIGN (freeOf size r₄))))) (g .same)
           ∙ ap (λ (y : List ℕ). encode e ++ (encodeExpressions es ++ y)) (sym (append-assoc w (encodeExpressions ds) _))
           ∙ parts (encode e) (encodeExpressions es) (w ++ encodeExpressions ds) (freeOf size r₄ - lo) v p K.ASSIGN (omega (
             arith,
@@ -43,8 +42,7 @@ assignment-read src size x lo {n} {v} {p} {t} {s} {s₁} {s₂} {s₃} {s₄} {r
             length-append (encode e) (encodeExpressions es ++ (w ++ encodeExpressions ds)),
             length-append (encodeExpressions es) (w ++ encodeExpressions ds),
             length-append w (encodeExpressions ds),
-          ))
-          ∙ ap (λ (y : List ℕ). closed (encode e ++ (encodeExpressions es ++ y)) v p K.ASSIGN) (sym (h .puts ds))
+          )) ∙ ap (λ (y : List ℕ). closed (encode e ++ (encodeExpressions es ++ y)) v p K.ASSIGN) (sym (h .puts ds))
           ∙ ap (λ (y : List ℕ). closed y v p K.ASSIGN) (sym (append-assoc (encode e) (encodeExpressions es) (encodeExpressions (put ds))))
           ∙ ap (λ (y : ℕ). closed ((encode e ++ encodeExpressions es) ++ encodeExpressions (put ds)) y p K.ASSIGN) (omega arith)
           ∙ ap (λ (y : ℕ). closed ((encode e ++ encodeExpressions es) ++ encodeExpressions (put ds)) (length (encode e)) y K.ASSIGN)
@@ -59,28 +57,21 @@ module _ (src : Source) (size x : ℕ) {s s₁ : List ℕ} {r r₁ : State} {kin
       → ((e : Expression) → freeOf size r₁ ≡ lo + length (encode e) → Follows (C.assignment (readers (within x)) e src) (After e) s₁ s₂ r₁ r₂)
       → Reads (C.assignmentOrCall (readers (within x)) src) encodeUnlabelled s s₂ r r₂
   unfolding C.assignmentOrCall C.afterExpression
-  assignment-first lo-is q p g =
-      bind size encode d p (λ e q₁. here _ (λ at free h. rw (sym (ap goesOnAssignment (k .here at free h)) ∙ q) refl)
+  assignment-first lo-is q p g = bind size encode d p (λ e q₁. here _ (λ at free h. rw (sym (ap goesOnAssignment (k .here at free h)) ∙ q) refl)
       (again (λ u w. Encodes encodeUnlabelled u (encode e ++ w)) (λ u w h. record { same = sym (h .same) }) (g e (omega arith))))
 
   module _ {call : Bool} (c : CallHere s₁ r₁ call) (q : goesOnAssignment kind ≡ false) where
     pub call-alone : call ≡ true → Reads (C.assignmentOrCall (readers (within x)) src) encodeUnlabelled s s₁ r r₁
     unfolding C.assignmentOrCall C.afterExpression C.callCommand encodeUnlabelled
-    call-alone h =
-        look size encode d stays (λ e v q₁. here (λ m. ok (T.callCommand e) m)
-        (λ at free y. rw (
-          sym (ap goesOnAssignment (k .here at free y)) ∙ q,
-          sym (c .here (v .next) (v .free) (v .before) e (v .reads) (v .stands))
-              ∙ h,
-        ) refl) (nothing (record { same = append-nil (encode e) })))
+    call-alone h = look size encode d stays (λ e v q₁. here (λ m. ok (T.callCommand e) m) (λ at free y. rw (
+      sym (ap goesOnAssignment (k .here at free y)) ∙ q,
+      sym (c .here (v .next) (v .free) (v .before) e (v .reads) (v .stands)) ∙ h,
+    ) refl) (nothing (record { same = append-nil (encode e) })))
 
     pub no-call :
         {r₂ : State} → call ≡ false → Refuses 6 r₁ r₂ → Passes r₁ r₂ → Reads (C.assignmentOrCall (readers (within x)) src) encodeUnlabelled s s₁ r r₂
     unfolding C.assignmentOrCall C.afterExpression C.callCommand unexpected
-    no-call h g p =
-        look size encode d p (λ e v q₁. stopped
-        (λ at free y. rw (
-          sym (ap goesOnAssignment (k .here at free y)) ∙ q,
-          sym (c .here (v .next) (v .free) (v .before) e (v .reads) (v .stands))
-              ∙ h,
-        ) refl) g)
+    no-call h g p = look size encode d p (λ e v q₁. stopped (λ at free y. rw (
+      sym (ap goesOnAssignment (k .here at free y)) ∙ q,
+      sym (c .here (v .next) (v .free) (v .before) e (v .reads) (v .stands)) ∙ h,
+    ) refl) g)

@@ -54,8 +54,7 @@ module _ (x : ℕ) (labels : Bool) {s : List ℕ} {n : ℕ} {r : State} {kind : 
 
     pub body-empty : Ready 0 s n r → labels ≡ true → Reading 0 (bodyAfter labels x) (Encodes encodeRepeatedOnly) s s n r r
     unfolding bodyAfter encodeRepeatedOnly repeated encodeUnlabelled encodeRepeats
-    body-empty p z =
-        picked kinds (λ _ m. ok (record { body = T.empty; forms = T.noRepeats }) m) (λ src at h. rw (ap beginsCommand h ∙ sym e ∙ q, z))
+    body-empty p z = picked kinds (λ _ m. ok (record { body = T.empty; forms = T.noRepeats }) m) (λ src at h. rw (ap beginsCommand h ∙ sym e ∙ q, z))
         (leaves-all p, λ src l. nothing (record { same = refl }))
 
 -- after labels or none, a command is what `bodyAfter` reads, with its labels
@@ -125,8 +124,7 @@ unfolding C.command encodeCommand encodeLabels labelled encodeRepeatedOnly
 command-plain x k e q d = (
   d .0,
   λ src l. here _ (λ at free h. many-none (k src l) [] isLabel (C.label (within x)) (λ ls m. C.afterLabels (within x) ls src m) h (sym e ∙ q)
-      ∙ after-none x src at)
-      (mapped (with-labels []) (λ c. refl) (d .1 src l)),
+      ∙ after-none x src at) (mapped (with-labels []) (λ c. refl) (d .1 src l)),
 )
 
 module _ {src : Source} {n : ℕ} {s₀ : List ℕ} (l : HoldsSymbols src n s₀) (size x : ℕ) {r : State} {kind : ℕ} (k : KindHere src r kind) where
@@ -137,8 +135,7 @@ module _ {src : Source} {n : ℕ} {s₀ : List ℕ} (l : HoldsSymbols src n s₀
       → Reads (bodyAfter true x src) encodeRepeatedOnly s₂ s₃ r₂ r₃ → Adds (recordFrom lo value 0 LABELLED) s₃ s₄ r₃ r₄
       → Reads (C.command (within x) src) encodeCommand s s₄ r r₄
   unfolding C.command encodeCommand encodeRepeatedOnly isLabel member
-  labelled-read {s} {s₁} {s₂} {s₃} {s₄} {r₁} {r₂} {r₃} {r₄} {lo} {value} hb lo-is ev d₁ d₂ d₃ d₄ =
-      closes (Encodes encodeCommand) size lo-is
+  labelled-read {s} {s₁} {s₂} {s₃} {s₄} {r₁} {r₂} {r₃} {r₄} {lo} {value} hb lo-is ev d₁ d₂ d₃ d₄ = closes (Encodes encodeCommand) size lo-is
       (here _ (λ at free y. many-first k [] isLabel (C.label (within x)) (λ ls m. C.afterLabels (within x) ls src m) y l refl hb)
       (follow size d₁ (goes-on d₂ then goes-on d₃) (λ put w h q₁. bind size encodeLabels d₂ (goes-on d₃) (λ ls q₂.
       let some : 0 < length (encodeLabels (put ls)) = grown w (encodeLabels ls) (encodeLabels (put ls)) (h .puts ls) (h .some) in
@@ -162,8 +159,7 @@ module _ {src : Source} {n : ℕ} {s : List ℕ} (l : HoldsSymbols src n s) {r :
       → value ≡ freeOf size r₇ - freeOf size r₆ → Adds (recordFrom lo value 0 K.FOR) s₉ t r₉ q
       → Reads (C.for (readers (within x)) src) encodeUnlabelled s t r q
   unfolding C.for encodeUnlabelled
-  for-read {value} a b c d f g h i j v k =
-      let ip = goes-on i then goes-on j in
+  for-read {value} a b c d f g h i j v k = let ip = goes-on i then goes-on j in
       let gp = goes-on g then goes-on h then ip in
       let dp = goes-on d then goes-on f then gp in
       closes (Encodes encodeUnlabelled) size lo-is
@@ -181,8 +177,7 @@ module _ {src : Source} {n : ℕ} {s : List ℕ} (l : HoldsSymbols src n s) {r :
       → Reads (moreUpTo n T.noCommands (C.listed (readers (within x))) src) encodeCommands s₅ s₆ r₅ r₆ → value ≡ freeOf size r₂ - lo
       → Adds (recordFrom lo value 0 K.SWITCHON) s₆ t r₆ q → Reads (C.switchon (readers (within x)) src) encodeUnlabelled s t r q
   unfolding C.switchon encodeUnlabelled
-  switchon-read {value} a b c d f g v k =
-      let fg = listed-items T.noCommands (C.listed (readers (within x))) src (l .count) f g in
+  switchon-read {value} a b c d f g v k = let fg = listed-items T.noCommands (C.listed (readers (within x))) src (l .count) f g in
       let dp = goes-on d then goes-on fg in
       closes (Encodes encodeUnlabelled) size lo-is
       (bind size (λ _. []) a (goes-on b then goes-on c then dp) (λ _ q₁. bind size encode b (goes-on c then dp)
@@ -196,8 +191,7 @@ module _ {src : Source} {n : ℕ} {s : List ℕ} (l : HoldsSymbols src n s) {r :
       → Reads (C.commandsToEnd (readers (within x)) src) encodeCommands s₂ s₃ r₂ r₃ → value ≡ freeOf size r₂ - lo
       → Adds (recordFrom lo value 0 K.BEGIN) s₃ t r₃ q → Reads (C.block (readers (within x)) src) encodeUnlabelled s t r q
   unfolding C.block many encodeUnlabelled
-  block-read {value} {s₂} {s₃} {t} {r₁} {r₂} a b c v k =
-      closes (Encodes encodeUnlabelled) size lo-is
+  block-read {value} {s₂} {s₃} {t} {r₁} {r₂} a b c v k = closes (Encodes encodeUnlabelled) size lo-is
       (bind size (λ _. []) a (goes-on b then goes-on c) (λ _ q₁. bind size encodeLocals
       (subst (λ (m : ℕ). Reads (manyUpTo m T.noLocals (λ kind. eqb kind K.LET) (C.local (readers (within x))) src) encodeLocals s s₂ r₁ r₂)
       (sym (l .count)) b) (goes-on c) (λ ls q₂. ends (T.block ls) c (λ cs. record {
@@ -222,8 +216,7 @@ module _ (x : ℕ) {s : List ℕ} {n : ℕ} {r : State} {kind : ℕ} (kinds : Ki
   pub no-commands :
       {r₁ : State} → kind ≡ K.END → Expects K.END s n r r₁ → Reading 3 (C.commandsToEnd (readers (within x))) (Encodes encodeCommands) s s n r r₁
   unfolding C.commandsToEnd encodeCommands
-  no-commands q d =
-      picked kinds (λ src at. onOut (the K.END src at) (λ _ m. ok T.noCommands m))
+  no-commands q d = picked kinds (λ src at. onOut (the K.END src at) (λ _ m. ok T.noCommands m))
       (λ src at h. rw (eq-eqb (kindAt src at) K.END (h ∙ q))
       (sym (ap (λ (o : Out ℕ). onOut o (λ _ m. ok T.noCommands m)) (the-is src K.END at (h ∙ q)))))
       (leaves-less (d .0) refl, λ src l. mapped (λ _. T.noCommands) (λ _. refl) (d .1 src l))
@@ -232,12 +225,10 @@ module _ (x : ℕ) {s : List ℕ} {n : ℕ} {r : State} {kind : ℕ} (kinds : Ki
       {r₁ r₂ : State} → kind ≡ K.SEMICOLON → Expects K.SEMICOLON s n r r₁ → Expects K.END s n r₁ r₂
       → Reading 3 (C.commandsToEnd (readers (within x))) (Encodes encodeCommands) s s n r r₂
   unfolding C.commandsToEnd C.semicolonEnd encodeCommands
-  semicolon-commands q d g =
-      picked kinds _ (λ src at h. rw (h ∙ q)) (
-        leaves-less (leaves-last (d .0) (g .0)) refl,
-        λ src l. bind 0 (λ _. []) (d .1 src l) (goes-on (g .1 src l))
-            (λ _ _. mapped (λ _. T.noCommands) (λ _. refl) (g .1 src l)),
-      )
+  semicolon-commands q d g = picked kinds _ (λ src at h. rw (h ∙ q)) (
+    leaves-less (leaves-last (d .0) (g .0)) refl,
+    λ src l. bind 0 (λ _. []) (d .1 src l) (goes-on (g .1 src l)) (λ _ _. mapped (λ _. T.noCommands) (λ _. refl) (g .1 src l)),
+  )
 
   pub some-commands :
       {s₁ s₂ : List ℕ} {r₁ r₂ : State} → Unlike kind (K.SEMICOLON ∷ K.END ∷ [])
@@ -246,14 +237,11 @@ module _ (x : ℕ) {s : List ℕ} {n : ℕ} {r : State} {kind : ℕ} (kinds : Ki
       → Reading 5 (moreUpTo n T.noCommands (C.listed (readers (within x)))) (Encodes encodeCommands) s₁ s₂ n r₁ r₂
       → Reading 3 (C.commandsToEnd (readers (within x))) (Encodes encodeCommands) s s₂ n r r₂
   unfolding C.commandsToEnd
-  some-commands u d g =
-      let q = unlike2 u in
+  some-commands u d g = let q = unlike2 u in
       picked kinds _ (λ src at h. rw (
         ne-eqb (kindAt src at) K.END (λ y. q .0 (sym h ∙ y)),
-        ne-eqb (kindAt src at) K.SEMICOLON
-            (λ y. q .1 (sym h ∙ y)),
+        ne-eqb (kindAt src at) K.SEMICOLON (λ y. q .1 (sym h ∙ y)),
       )) (
         room-left (taken (d .0) plus (g .0)) refl,
-        λ src l. listed-items T.noCommands (C.listed (readers (within x))) src (l .count) (d .1 src l)
-            (g .1 src (lies-still l (d .0 .kept))),
+        λ src l. listed-items T.noCommands (C.listed (readers (within x))) src (l .count) (d .1 src l) (g .1 src (lies-still l (d .0 .kept))),
       )

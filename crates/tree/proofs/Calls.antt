@@ -34,15 +34,14 @@ recorded (T.name n) = record { contents = []; value = n .width; kind = K.NAME; w
 recorded (T.bracketed p e) = record { contents = encode e; value = 0; kind = K.OPEN; words = refl; call = refl }
 recorded (T.valof p c) = record { contents = encodeCommand c; value = 0; kind = K.VALOF; words = refl; call = refl }
 recorded (T.monadic p o e) = record { contents = encode e; value = o; kind = MONADIC; words = refl; call = refl }
-recorded (T.suffixed e ss) =
-    record {
-      contents = encode e ++ encodeSuffixes ss;
-      value = length (encode e);
-      kind = suffixedKind (endsInCall false ss);
-      words = refl;
-      call
-          = called (endsInCall false ss);
-    }
+recorded (T.suffixed e ss) = record {
+  contents = encode e ++ encodeSuffixes ss;
+  value = length (encode e);
+  kind = suffixedKind (endsInCall false ss);
+  words = refl;
+  call
+      = called (endsInCall false ss);
+}
 recorded (T.dyadic e os) = record { contents = encode e ++ encodeOperations os; value = length (encode e); kind = DYADIC; words = refl; call = refl }
 
 -- what is read last stands below the next free entry

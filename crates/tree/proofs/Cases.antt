@@ -37,12 +37,10 @@ one-some (T.default place) = omega arith
 put-label :
     {read : ℕ → Out Label} {s s′ : List ℕ} {r r′ : State} → Reads read one s s′ r r′
     → Follows (λ m. onOut (read m) (λ l q. ok (l ∷_) q)) (Prepends encodeLabels) s s′ r r′
-put-label d =
-    bind 0 one d stays
-    (λ l _. nothing (record {
-      puts = λ rest. one-first l rest ∙ ap (λ (v : List ℕ). v ++ encodeLabels rest) (sym (append-nil (one l)));
-      some = omega (arith, one-some l, ap length (append-nil (one l)));
-    }))
+put-label d = bind 0 one d stays (λ l _. nothing (record {
+  puts = λ rest. one-first l rest ∙ ap (λ (v : List ℕ). v ++ encodeLabels rest) (sym (append-nil (one l)));
+  some = omega (arith, one-some l, ap length (append-nil (one l)));
+}))
 
 -- its word, an item's two entries, what stands in it, its record, and the item's size
 module _ {src : Source} {n : ℕ} {s : List ℕ} (l : HoldsSymbols src n s) {r : State} (size : ℕ) (x : ℕ) {lo start p : ℕ}
@@ -53,9 +51,7 @@ module _ {src : Source} {n : ℕ} {s : List ℕ} (l : HoldsSymbols src n s) {r :
       → Adds (λ _. 0 ∷ kind ∷ []) s s₁ r₀ r₁ → Follows (next p) (λ y w. Encodes one y (item kind (closed w 0 p kind))) s₁ s₂ r₁ r₃
       → Adds (recordFrom start 0 p kind) s₂ s₃ r₃ r₄
       → SetsSize lo s₃ s₄ r₄ → Reads (λ at. onOut (the kind src at) next) one s s₄ r r₄
-  label-read kind pos next a b c f g =
-      here _ (placed l h kind pos next)
-      (bind size (λ _. []) a (adds-on b then goes-on c then adds-on f) (λ _ q₀.
+  label-read kind pos next a b c f g = here _ (placed l h kind pos next) (bind size (λ _. []) a (adds-on b then goes-on c then adds-on f) (λ _ q₀.
       sized (Encodes one) kind size (λ y w e. e) le (omega arith) b (closes (λ y w. Encodes one y (item kind w)) size start-is c f) g))
 
   pub case-read :
@@ -63,8 +59,7 @@ module _ {src : Source} {n : ℕ} {s : List ℕ} (l : HoldsSymbols src n s) {r :
       → Reads (E.constant (within x) src) encodeConstant s₁ s₂ r₁ r₂ → Reads (the K.COLON src) (λ _. []) s₂ s₂ r₂ r₃
       → Adds (recordFrom start 0 p K.CASE) s₂ s₃ r₃ r₄ → SetsSize lo s₃ s₄ r₄ → Reads (C.case (within x) src) one s s₄ r r₄
   unfolding C.case encodeLabels
-  case-read a b c d f g =
-      label-read K.CASE (omega arith)
+  case-read a b c d f g = label-read K.CASE (omega arith)
       (λ place m. onOut (E.constant (within x) src m) (λ k q. onOut (the K.COLON src q) (λ _ w. ok (T.case place k) w))) a b
       (bind size encodeConstant c (goes-on d) (λ k _. bind size (λ _. []) d stays (λ _ _. nothing (record {
         same = ap (λ (w : List ℕ). item K.CASE (closed w 0 p K.CASE)) (append-nil (encodeConstant k)) ∙ sym (append-nil _);
@@ -74,8 +69,7 @@ module _ {src : Source} {n : ℕ} {s : List ℕ} (l : HoldsSymbols src n s) {r :
       Reads (the K.DEFAULT src) (λ _. []) s s r r₀ → Adds (λ _. 0 ∷ K.DEFAULT ∷ []) s s₁ r₀ r₁ → Reads (the K.COLON src) (λ _. []) s₁ s₁ r₁ r₃
       → Adds (recordFrom start 0 p K.DEFAULT) s₁ s₃ r₃ r₄ → SetsSize lo s₃ s₄ r₄ → Reads (C.default (within x) src) one s s₄ r r₄
   unfolding C.default encodeLabels
-  default-read a b d f g =
-      label-read K.DEFAULT (omega arith) (λ place m. onOut (the K.COLON src m) (λ _ w. ok (T.default place) w)) a b
+  default-read a b d f g = label-read K.DEFAULT (omega arith) (λ place m. onOut (the K.COLON src m) (λ _ w. ok (T.default place) w)) a b
       (bind size (λ _. []) d stays (λ _ _. nothing (record { same = refl }))) f g
 
 -- the choice

@@ -23,10 +23,8 @@ use Rattle.tree.specs.declared.scratch.State.{State}
 pub chained :
     (a w c whole : List ℕ) (z v p k : ℕ) → z ≡ length a + (length w + length c) → v ≡ length a → whole ≡ w ++ c
     → a ++ (w ++ (c ++ (z ∷ v ∷ p ∷ k ∷ []))) ≡ closed (a ++ whole) (length a) p k
-chained a w c whole z v p k ez ev e =
-    parts a w c z v p k (omega (arith, length-append a (w ++ c), length-append w c))
-    ∙ ap (λ (x : List ℕ). closed (a ++ x) v p k) (sym e)
-    ∙ ap (λ (y : ℕ). closed (a ++ whole) y p k) ev
+chained a w c whole z v p k ez ev e = parts a w c z v p k (omega (arith, length-append a (w ++ c), length-append w c))
+    ∙ ap (λ (x : List ℕ). closed (a ++ x) v p k) (sym e) ∙ ap (λ (y : ℕ). closed (a ++ whole) y p k) ev
 
 pub grown : (w c whole : List ℕ) → whole ≡ w ++ c → 0 < length w → 0 < length whole
 grown w c whole e h = let q : length whole ≡ length w + length c = ap length e ∙ length-append w c in omega arith
@@ -42,8 +40,7 @@ most-is src b n e h = most-by n (length (src .symbols)) e h (eqb b RELATION)
 module _ (inner : Inside) (right : ℕ) (src : Source) (b : ℕ) where
   no-operations : (at : ℕ) → (bindingOf (kindAt src at) ≡ b → ⊥) → E.operations b (E.expression inner right) src at ≡ ok T.noOperations at
   unfolding E.operations
-  no-operations at h =
-      last T.noOperations (λ kind. eqb (bindingOf kind) b) (E.operation (E.expression inner right)) src (E.mostOf b src) at
+  no-operations at h = last T.noOperations (λ kind. eqb (bindingOf kind) b) (E.operation (E.expression inner right)) src (E.mostOf b src) at
       (ne-eqb (bindingOf (kindAt src at)) b h)
 
   first-operation :
@@ -62,8 +59,7 @@ module _ {src : Source} {n : ℕ} {s₀ : List ℕ} (l : HoldsSymbols src n s₀
     (d₁ : Reads (E.expression (within x) (b - 1) src) encode s s₁ r r₁) where
   pub expression-one : (bindingOf kind ≡ b → ⊥) → Reads (E.expression (within x) b src) encode s s₁ r r₁
   unfolding withOperations
-  expression-one h =
-      here _ (λ at free e. chain-is (within x) src b at pos no-not most)
+  expression-one h = here _ (λ at free e. chain-is (within x) src b at pos no-not most)
       (bind size encode d₁ stays (λ e q. here (λ m. ok e m) (λ at free y. ap (λ (o : Out Operations). onOut o (λ os q. ok (withOperations e os) q))
       (no-operations (within x) (rightOf b) src b at (λ z. h (ap bindingOf (k .here at free y) ∙ z))))
       (nothing (record { same = append-nil (encode e) }))))
@@ -77,18 +73,15 @@ module _ {src : Source} {n : ℕ} {s₀ : List ℕ} (l : HoldsSymbols src n s₀
       → Adds (recordFrom lo value place DYADIC) s₃ s₄ r₃ r₄ → Reads (E.expression (within x) b src) encode s s₄ r r₄
   expression-more {s₂} {s₃} {s₄} {r₂} {r₃} {r₄} {lo} {value} {place} {right} er hb lo-is ev ep d₂ d₃ d₄ =
       let kp : 0 < kind = binding-positive kind (omega arith) in
-      here _ (λ at free e. chain-is (within x) src b at pos no-not most
-      ∙ ap (λ (y : ℕ). onOut (E.expression (within x) (b - 1) src at)
+      here _ (λ at free e. chain-is (within x) src b at pos no-not most ∙ ap (λ (y : ℕ). onOut (E.expression (within x) (b - 1) src at)
       (λ e m. onOut (E.operations b (E.expression (within x) y) src m) (λ os q. ok (withOperations e os) q))) (sym er))
       (look size encode d₁ (goes-on d₂ then goes-on d₃ then adds-on d₄) (λ e v q₁. here _ (λ at free y.
       let i : at < n = among l at (omega (arith, k .here at free y)) in
       ap (λ (o : Out Operations). onOut o (λ os q. ok (withOperations e os) q))
       (first-operation (within x) right src b n at (l .count) (omega arith) (sym (ap bindingOf (k .here at free y)) ∙ hb))
       ∙ nests (E.operation (E.expression (within x) right) src at) (λ q. manyUpTo (furtherMost b n) T.noOperations (λ kind. eqb (bindingOf kind) b)
-      (E.operation (E.expression (within x) right)) src q) (λ os q. ok (withOperations e os) q))
-      (follow size d₂ (goes-on d₃ then adds-on d₄)
-      (λ put w h q₂. bind size encodeOperations d₃ (adds-on d₄)
-      (λ os q₃. added size d₄ (record {
+      (E.operation (E.expression (within x) right)) src q) (λ os q. ok (withOperations e os) q)) (follow size d₂ (goes-on d₃ then adds-on d₄)
+      (λ put w h q₂. bind size encodeOperations d₃ (adds-on d₄) (λ os q₃. added size d₄ (record {
         same = chained (encode e) w (encodeOperations os) (encodeOperations (put os)) (freeOf size r₃ - lo) value
             place DYADIC (omega arith) (omega arith) (h .puts os)
             ∙ ap (λ (p : ℕ). closed (encode e ++ encodeOperations (put os)) (length (encode e)) p DYADIC)
@@ -100,8 +93,7 @@ module _ {src : Source} {n : ℕ} {s₀ : List ℕ} (l : HoldsSymbols src n s₀
     (k : KindHere src r₁ kind) (d₁ : Reads (E.primary (within x) src) encode s s₁ r r₁) where
   pub suffixed-one : isSuffix kind ≡ false → Reads (E.suffixed (within x) src) encode s s₁ r r₁
   unfolding E.suffixed withSuffixes
-  suffixed-one h =
-      bind size encode d₁ stays (λ e q. here (λ m. ok e m)
+  suffixed-one h = bind size encode d₁ stays (λ e q. here (λ m. ok e m)
       (λ at free y. many-none k T.noSuffixes isSuffix (E.suffix (within x)) (λ ss q. ok (withSuffixes e ss) q) y h)
       (nothing (record { same = append-nil (encode e) })))
 
@@ -115,9 +107,7 @@ module _ {src : Source} {n : ℕ} {s₀ : List ℕ} (l : HoldsSymbols src n s₀
   suffixed-more {s₂} {s₃} {s₄} {r₂} {r₃} {r₄} {lo} {value} {place} {tag} {first} {last} hb lo-is ev ep et d₂ d₃ d₄ =
       look size encode d₁ (goes-on d₂ then goes-on d₃ then adds-on d₄) (λ e z q₁. here _
       (λ at free y. many-first k T.noSuffixes isSuffix (E.suffix (within x)) (λ ss q. ok (withSuffixes e ss) q) y l refl hb)
-      (follow size d₂ (goes-on d₃ then adds-on d₄)
-      (λ put w h q₂. follow size d₃ (adds-on d₄)
-      (λ ss v g q₃. added size d₄ (record {
+      (follow size d₂ (goes-on d₃ then adds-on d₄) (λ put w h q₂. follow size d₃ (adds-on d₄) (λ ss v g q₃. added size d₄ (record {
         same = ap (λ (u : List ℕ). encode e ++ (w ++ (u ++ recordFrom lo value place tag (freeOf size r₃))))
             (g .same) ∙ chained (encode e) w (encodeSuffixes ss) (encodeSuffixes (put ss)) (freeOf size r₃ - lo) value place tag
             (omega (arith, ap length (g .same))) (omega arith) (h .puts ss)
@@ -139,12 +129,10 @@ suffix-first = record { puts = λ rest. refl; ends = λ rest. refl }
 pub suffix-next :
     {b c d : Bool} (put put′ : Suffixes → Suffixes) (w w′ : List ℕ) → EndedSoFar b c put w → PrependsSuffix d put′ w′
     → EndedSoFar b d (λ ss. put (put′ ss)) (w ++ w′)
-suffix-next {b} {c} {d} put put′ w w′ h g =
-    record {
-      puts = λ rest. h .puts (put′ rest) ∙ ap (λ (l : List ℕ). w ++ l) (g .puts rest)
-          ∙ sym (append-assoc w w′ (encodeSuffixes rest));
-      ends = λ rest. h .ends (put′ rest) ∙ g .ends c rest;
-    }
+suffix-next {b} {c} {d} put put′ w w′ h g = record {
+  puts = λ rest. h .puts (put′ rest) ∙ ap (λ (l : List ℕ). w ++ l) (g .puts rest) ∙ sym (append-assoc w w′ (encodeSuffixes rest));
+  ends = λ rest. h .ends (put′ rest) ∙ g .ends c rest;
+}
 
 pub suffix-last :
     {b c : Bool} (put : Suffixes → Suffixes) (ss : Suffixes) (w v : List ℕ) → EndedSoFar b c put w → Ended c c ss v → Ended b c (put ss) (w ++ v)
@@ -165,12 +153,11 @@ expression-first = record { puts = λ rest. refl; many = λ rest. omega arith }
 pub expression-next :
     {m : ℕ} (put put′ : Expressions → Expressions) (w w′ : List ℕ) → CountedSoFar m put w → PrependsOne put′ w′
     → CountedSoFar (m + 1) (λ es. put (put′ es)) (w ++ w′)
-expression-next {m} put put′ w w′ h g =
-    record {
-      puts = λ rest. h .puts (put′ rest) ∙ ap (λ (l : List ℕ). w ++ l) (g .puts rest) ∙ sym (append-assoc w w′ (encodeExpressions rest));
-      many
-          = λ rest. omega (arith, h .many (put′ rest), g .one rest);
-    }
+expression-next {m} put put′ w w′ h g = record {
+  puts = λ rest. h .puts (put′ rest) ∙ ap (λ (l : List ℕ). w ++ l) (g .puts rest) ∙ sym (append-assoc w w′ (encodeExpressions rest));
+  many
+      = λ rest. omega (arith, h .many (put′ rest), g .one rest);
+}
 
 pub expression-last :
     {m : ℕ} (put : Expressions → Expressions) (es : Expressions) (w v : List ℕ) → CountedSoFar m put w → Counted 0 es v → Counted m (put es) (w ++ v)

@@ -123,8 +123,7 @@ module _ (x : ℕ) {s s′ : List ℕ} {n : ℕ} {r r′ : State} {kind : ℕ} w
       pub expression-shift :
           (kind ≡ K.NOT → ⊥) → Reads-by (E.expression (within x) (b - 1)) s s′ n r r′
           → Reads-by (E.expression (within x) b) s s′ n r r′
-      expression-shift q d =
-          let z : 4 ≡ b - 1 = omega arith in
+      expression-shift q d = let z : 4 ≡ b - 1 = omega arith in
           picked kinds _ (λ src at h. at-not x b is-not src at ∙ rw (ne-eqb (kindAt src at) K.NOT (λ y. q (sym h ∙ y)))
           (ap (λ (y : ℕ). E.expression (within x) y src at) z)) d
 
@@ -140,13 +139,10 @@ module _ (x : ℕ) {s s′ : List ℕ} {n : ℕ} {r r′ : State} {kind : ℕ} w
         Unlike kind (K.VALOF ∷ K.OPEN ∷ []) → ReadingAt kind 1 atomic (Encodes encode) s s′ n r r′
         → Reads-by (E.primary (within x)) s s′ n r r′
     unfolding E.primary atomic
-    primary-atom u d =
-        let q = unlike2 u in
-        chosen kinds atomic (λ src at h. rw (
-          ne-eqb (kindAt src at) K.OPEN (λ y. q .0 (sym h ∙ y)),
-          ne-eqb (kindAt src at) K.VALOF
-              (λ y. q .1 (sym h ∙ y)),
-        )) d
+    primary-atom u d = let q = unlike2 u in chosen kinds atomic (λ src at h. rw (
+      ne-eqb (kindAt src at) K.OPEN (λ y. q .0 (sym h ∙ y)),
+      ne-eqb (kindAt src at) K.VALOF (λ y. q .1 (sym h ∙ y)),
+    )) d
 
   -- a suffix, where the symbol's kind is given
   pub suffix-arguments :

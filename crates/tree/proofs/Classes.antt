@@ -79,8 +79,7 @@ module _ (f g : ℕ → ℕ) (e : below f ≡ below (λ kind. g (letterOf kind))
       entry h l = tabulate-at h 0 62 kind l ∙ ap h (let z : 0 + kind ≡ kind = omega arith in z)
 
       go : (t : Bool) → ltb kind 62 ≡ t → g (letterOf kind) ≡ f kind
-      go true l =
-          let h : kind < 62 = ltb-true kind 62 l in
+      go true l = let h : kind < 62 = ltb-true kind 62 l in
           sym (entry (λ k. g (letterOf k)) h) ∙ ap (λ (r : List ℕ). getD r kind 0) (sym e) ∙ entry f h
       go false l = let h : 62 ≤ kind = ltb-false kind 62 l in ap g (past-letters kind h) ∙ sym (past kind h)
 
@@ -112,11 +111,10 @@ past-all (k ∷ ks) t kind h = go (ltb k 62) refl t (λ t. past-all ks t kind h)
 module _ (class : ℕ → Bool) (among : List ℕ)
     (e : below (λ kind. begin-item (class kind)) ≡ below (λ kind. begin-item (member (letterOf kind) among))) where
   class-of : member 46 among ≡ false → ((kind : ℕ) → 62 ≤ kind → class kind ≡ false) → Class class among
-  class-of dot past =
-      record {
-        agrees = λ kind. unmarked _ _ (agree (λ k. begin-item (class k)) (λ l. begin-item (member l among)) e
-            (λ k h. ap begin-item (past k h ∙ sym dot)) kind);
-      }
+  class-of dot past = record {
+    agrees = λ kind. unmarked _ _ (agree (λ k. begin-item (class k)) (λ l. begin-item (member l among)) e
+        (λ k h. ap begin-item (past k h ∙ sym dot)) kind);
+  }
 
 unlike : (letter : ℕ) (l : List ℕ) → Unlike letter l → member letter l ≡ false
 unfolding member
@@ -173,8 +171,7 @@ declaration = class-of isDeclaration (bytes "d") refl refl (past-all (K.GLOBAL �
 
 pub expression : Class beginsExpression (bytes "n@!2(e")
 unfolding beginsExpression member letterOf
-expression =
-    class-of beginsExpression (bytes "n@!2(e") refl refl
+expression = class-of beginsExpression (bytes "n@!2(e") refl refl
     (past-all (K.NUMBER ∷ K.STRING ∷ K.TRUE ∷ K.FALSE ∷ K.NAME ∷ K.OPEN ∷ K.VALOF ∷ K.PLING ∷ K.AT ∷ K.PLUS ∷ K.MINUS ∷ K.NOT ∷ []) tt)
 
 pub command : Class beginsCommand (bytes "n@!2(ecxg")
@@ -182,20 +179,17 @@ unfolding beginsCommand beginsExpression isGuard isLeave member letterOf
 command = class-of beginsCommand (bytes "n@!2(ecxg") refl refl past
   where
     past : (kind : ℕ) → 62 ≤ kind → beginsCommand kind ≡ false
-    past kind h =
-        rw (
-          past-all (K.NUMBER ∷ K.STRING ∷ K.TRUE ∷ K.FALSE ∷ K.NAME ∷ K.OPEN ∷ K.VALOF ∷ K.PLING ∷ K.AT ∷ K.PLUS ∷ K.MINUS ∷ K.NOT ∷ []) tt kind h,
-          past-all (K.IF ∷ K.UNLESS ∷ K.WHILE ∷ K.UNTIL ∷ []) tt kind h,
-          past-all (K.ENDCASE ∷ K.BREAK ∷ K.LOOP ∷ K.RETURN ∷ K.FINISH ∷ []) tt kind h,
-          past-all (K.TEST ∷ K.FOR ∷ K.SWITCHON ∷ K.RESULTIS ∷ K.BEGIN ∷ []) tt kind h,
-        )
-        refl
+    past kind h = rw (
+      past-all (K.NUMBER ∷ K.STRING ∷ K.TRUE ∷ K.FALSE ∷ K.NAME ∷ K.OPEN ∷ K.VALOF ∷ K.PLING ∷ K.AT ∷ K.PLUS ∷ K.MINUS ∷ K.NOT ∷ []) tt kind h,
+      past-all (K.IF ∷ K.UNLESS ∷ K.WHILE ∷ K.UNTIL ∷ []) tt kind h,
+      past-all (K.ENDCASE ∷ K.BREAK ∷ K.LOOP ∷ K.RETURN ∷ K.FINISH ∷ []) tt kind h,
+      past-all (K.TEST ∷ K.FOR ∷ K.SWITCHON ∷ K.RESULTIS ∷ K.BEGIN ∷ []) tt kind h,
+    ) refl
 
 -- what begins a command and is none of its own letters begins an expression
 pub command-else : (kind : ℕ) {letter : ℕ} → letter ≡ letterOf kind → Unlike letter (bytes "cxg") → beginsExpression kind ≡ beginsCommand kind
 unfolding member
-command-else kind {letter} is u =
-    sym (expression .agrees kind) ∙ ap (λ (x : ℕ). member x (bytes "n@!2(e")) (sym is)
+command-else kind {letter} is u = sym (expression .agrees kind) ∙ ap (λ (x : ℕ). member x (bytes "n@!2(e")) (sym is)
     ∙ rw (ne-eqb letter 99 (u .1), ne-eqb letter 120 (u .0 .1), ne-eqb letter 103 (u .0 .0 .1)) at
     (ap (λ (x : ℕ). member x (bytes "n@!2(ecxg")) is ∙ command .agrees kind)
 
@@ -210,16 +204,14 @@ unfolding bindingOf member letterOf
 binding = agree bindingOf bindingBy refl past
   where
     past : (kind : ℕ) → 62 ≤ kind → bindingOf kind ≡ 0
-    past kind h =
-        rw (
-          past-all (K.STAR ∷ K.SLASH ∷ K.REM ∷ []) tt kind h,
-          past-all (K.PLUS ∷ K.MINUS ∷ []) tt kind h,
-          past-all (K.EQUAL ∷ K.UNEQUAL ∷ K.LESS ∷ K.ATMOST ∷ K.MORE ∷ K.ATLEAST ∷ []) tt kind h,
-          past-all (K.LEFT ∷ K.RIGHT ∷ []) tt kind h,
-          ne-eqb kind K.AMPERSAND (omega arith),
-          ne-eqb kind K.BAR (omega arith),
-        )
-        refl
+    past kind h = rw (
+      past-all (K.STAR ∷ K.SLASH ∷ K.REM ∷ []) tt kind h,
+      past-all (K.PLUS ∷ K.MINUS ∷ []) tt kind h,
+      past-all (K.EQUAL ∷ K.UNEQUAL ∷ K.LESS ∷ K.ATMOST ∷ K.MORE ∷ K.ATLEAST ∷ []) tt kind h,
+      past-all (K.LEFT ∷ K.RIGHT ∷ []) tt kind h,
+      ne-eqb kind K.AMPERSAND (omega arith),
+      ne-eqb kind K.BAR (omega arith),
+    ) refl
 
 abbrev reachBy : ℕ → ℕ
 reachBy l = cond (eqb l 33) 0 (cond (eqb l 64) 0 (cond (eqb l 50) 1 4))
@@ -233,16 +225,14 @@ module _ (kind : ℕ) {letter : ℕ} (is : letter ≡ letterOf kind) where
   binding-arm e = ap bindingBy (sym e ∙ is) ∙ binding kind
 
   pub no-binding : Unlike letter (bytes "764321") → 0 ≡ bindingOf kind
-  no-binding u =
-      rw (
-        ne-eqb letter 49 (u .0 .0 .0 .0 .0 .1),
-        ne-eqb letter 50 (u .0 .0 .0 .0 .1),
-        ne-eqb letter 51 (u .0 .0 .0 .1),
-        ne-eqb letter 52
-            (u .0 .0 .1),
-        ne-eqb letter 54 (u .0 .1),
-        ne-eqb letter 55 (u .1),
-      )
+  no-binding u = rw (
+    ne-eqb letter 49 (u .0 .0 .0 .0 .0 .1),
+    ne-eqb letter 50 (u .0 .0 .0 .0 .1),
+    ne-eqb letter 51 (u .0 .0 .0 .1),
+    ne-eqb letter 52 (u .0 .0 .1),
+    ne-eqb letter 54 (u .0 .1),
+    ne-eqb letter 55 (u .1),
+  )
       at (ap bindingBy is ∙ binding kind)
 
   pub reach-arm : {l : ℕ} → letter ≡ l → reachBy l ≡ reachOf kind

@@ -29,8 +29,7 @@ module _ {src : Source} {n : ℕ} {s : List ℕ} (l : HoldsSymbols src n s) {r :
       → Reads (E.expression (within x) LOOSEST src) encode s s₂ r₁ r₂ → Adds (recordFrom lo 0 p K.RESULTIS) s₂ s₃ r₂ r₃
       → Reads (C.resultis (readers (within x)) src) encodeUnlabelled s s₃ r r₃
   unfolding C.resultis encodeUnlabelled
-  resultis-read {p} h a b d =
-      closes (Encodes encodeUnlabelled) size lo-is
+  resultis-read {p} h a b d = closes (Encodes encodeUnlabelled) size lo-is
       (here _ (placed l h K.RESULTIS (omega arith) (λ place m. onOut (E.expression (within x) LOOSEST src m) (λ e w. ok (T.resultis place e) w)))
       (bind size (λ _. []) a (goes-on b) (λ _ _. ends (T.resultis p) b (λ e. record { same = refl })))) d
 
@@ -40,8 +39,7 @@ module _ {src : Source} {n : ℕ} {s : List ℕ} (l : HoldsSymbols src n s) {r :
       → Reads (C.command (within x) src) encodeCommand s₂ s₄ r₃ r₄ → Adds (recordFrom lo 0 0 kind) s₄ s₅ r₄ r₅
       → Reads (C.guarded (readers (within x)) src) encodeUnlabelled s s₅ r r₅
   unfolding C.guarded any encodeUnlabelled
-  guarded-read {kind} k a b c d f =
-      closes (Encodes encodeUnlabelled) size lo-is
+  guarded-read {kind} k a b c d f = closes (Encodes encodeUnlabelled) size lo-is
       (here _ (any-the k (λ y _ m. onOut (E.expression (within x) LOOSEST src m)
       (λ e q. onOut (the K.DO src q) (λ _ w. onOut (C.command (within x) src w) (λ c u. ok (T.guarded y e c) u)))))
       (bind size (λ _. []) a (goes-on b then goes-on c then goes-on d) (λ _ _. bind size encode b (goes-on c then goes-on d)
@@ -54,8 +52,7 @@ module _ {src : Source} {n : ℕ} {s : List ℕ} (l : HoldsSymbols src n s) {r :
       → Reads (C.command (within x) src) encodeCommand s₄ s₆ r₅ r₆ → Adds (recordFrom lo 0 0 K.TEST) s₆ s₇ r₆ r₇
       → Reads (C.test (readers (within x)) src) encodeUnlabelled s s₇ r r₇
   unfolding C.test encodeUnlabelled
-  test-read a b c d f g i =
-      closes (Encodes encodeUnlabelled) size lo-is
+  test-read a b c d f g i = closes (Encodes encodeUnlabelled) size lo-is
       (bind size (λ _. []) a (goes-on b then goes-on c then goes-on d then goes-on f then goes-on g)
       (λ _ _. bind size encode b (goes-on c then goes-on d then goes-on f then goes-on g)
       (λ e _. bind size (λ _. []) c (goes-on d then goes-on f then goes-on g) (λ _ _. bind size encodeCommand d (goes-on f then goes-on g)
@@ -67,8 +64,7 @@ module _ (src : Source) {r : State} (size x : ℕ) {kind : ℕ} (k : KindHere sr
       kind ≡ K.REPEAT → Reads (the kind src) (λ _. []) s s r r₀ → Adds (λ _. 0 ∷ kind ∷ []) s s₁ r₀ r₁
       → Follows (C.repeatForm (readers (within x)) src) (Prepends encodeRepeats) s s₁ r r₁
   unfolding C.repeatForm C.repeat encodeRepeats
-  repeat-read q c a =
-      here (λ at. onOut (the kind src at) (λ _ m. ok T.repeat m))
+  repeat-read q c a = here (λ at. onOut (the kind src at) (λ _ m. ok T.repeat m))
       (λ at free e. ap (λ (b : Bool). cond b (C.repeat (readers (within x)) src at) (C.repeatOn (readers (within x)) src at))
       (eq-eqb (kindAt src at) K.REPEAT (sym (k .here at free e) ∙ q)) ∙ ap (λ (y : ℕ). onOut (the y src at) (λ _ m. ok T.repeat m)) (sym q))
       (bind size (λ _. []) c (adds-on a)
@@ -80,8 +76,7 @@ module _ (src : Source) {r : State} (size x : ℕ) {kind : ℕ} (k : KindHere sr
       → Reads (E.expression (within x) LOOSEST src) encode s₁ s₂ r₁ r₂ → SetsSize lo s₂ s₃ r₂
       → Follows (C.repeatForm (readers (within x)) src) (Prepends encodeRepeats) s s₃ r r₂
   unfolding C.repeatForm C.repeatOn any encodeRepeats
-  repeat-on-read lo-is q le c a d b =
-      here (C.repeatOn (readers (within x)) src)
+  repeat-on-read lo-is q le c a d b = here (C.repeatOn (readers (within x)) src)
       (λ at free e. ap (λ (b : Bool). cond b (C.repeat (readers (within x)) src at) (C.repeatOn (readers (within x)) src at))
       (ne-eqb (kindAt src at) K.REPEAT (λ y. q (k .here at free e ∙ y))))
       (here _ (any-the k (λ y _ m. onOut (E.expression (within x) LOOSEST src m) (λ e w. ok (T.repeatOn y e) w)))
@@ -101,9 +96,7 @@ module _ {src : Source} {n : ℕ} {s₀ : List ℕ} (l : HoldsSymbols src n s₀
     (k : KindHere src r₁ kind) (d₁ : Reads (C.unlabelled (readers (within x)) src) encodeUnlabelled s s₁ r r₁) where
   pub repeated-one : isRepeat kind ≡ false → Reads (repeatedOnly x src) encodeRepeatedOnly s s₁ r r₁
   unfolding repeatedOnly repeatedBy encodeRepeatedOnly repeated encodeRepeats
-  repeated-one h =
-      bind size encodeUnlabelled d₁ stays
-      (λ u q. here (λ m. ok (record { body = u; forms = T.noRepeats }) m)
+  repeated-one h = bind size encodeUnlabelled d₁ stays (λ u q. here (λ m. ok (record { body = u; forms = T.noRepeats }) m)
       (λ at free y. many-none k T.noRepeats isRepeat (C.repeatForm (readers (within x))) (λ rs q. ok (record { body = u; forms = rs }) q) y h)
       (nothing (record { same = append-nil (encodeUnlabelled u) })))
 
@@ -116,13 +109,9 @@ module _ {src : Source} {n : ℕ} {s₀ : List ℕ} (l : HoldsSymbols src n s₀
   repeated-more {s₂} {s₃} {s₄} {r₂} {r₃} {r₄} {lo} {value} hb lo-is ev d₂ d₃ d₄ =
       bind size encodeUnlabelled d₁ (goes-on d₂ then goes-on d₃ then adds-on d₄) (λ u q₁. here _
       (λ at free y. many-first k T.noRepeats isRepeat (C.repeatForm (readers (within x))) (λ rs q. ok (record { body = u; forms = rs }) q) y l refl
-      hb)
-      (follow size d₂ (goes-on d₃ then adds-on d₄)
-      (λ put w h q₂. bind size encodeRepeats d₃ (adds-on d₄)
-      (λ rs q₃. added size d₄ (record {
+      hb) (follow size d₂ (goes-on d₃ then adds-on d₄) (λ put w h q₂. bind size encodeRepeats d₃ (adds-on d₄) (λ rs q₃. added size d₄ (record {
         same = chained (encodeUnlabelled u) w (encodeRepeats rs) (encodeRepeats (put rs)) (freeOf size r₃ - lo) value
-            0 REPEATED (omega arith) (omega arith) (h .puts rs)
-            ∙ sym (some-forms (encodeUnlabelled u) (encodeRepeats (put rs))
+            0 REPEATED (omega arith) (omega arith) (h .puts rs) ∙ sym (some-forms (encodeUnlabelled u) (encodeRepeats (put rs))
             (grown w (encodeRepeats rs) (encodeRepeats (put rs)) (h .puts rs) (h .some)));
       })))))
 
@@ -183,35 +172,25 @@ module _ (x : ℕ) {s s′ : List ℕ} {n : ℕ} {r r′ : State} {kind : ℕ} (
           w ≡ true → ReadingAt kind 1 leaving (Encodes encodeUnlabelled) s s′ n r r′
           → Command (C.unlabelled (readers (within x))) s s′ n r r′
       unfolding C.unlabelled C.leave leaving
-      unlabelled-leave q d =
-          let yes = sym leave ∙ q in
-          chosen kinds leaving
-          (λ src at h. rw (
-            other h (differs isLeave yes (stays-on .0)),
-            ap isGuard h ∙ sym guard
-                ∙ p,
-            other h (differs isLeave yes (stays-on .1)),
-            other h (differs isLeave yes (stays-on .2)),
-            other h (differs isLeave yes (stays-on .3)),
-            ap isLeave h ∙ sym leave ∙ q,
-          ))
-          d
+      unlabelled-leave q d = let yes = sym leave ∙ q in chosen kinds leaving (λ src at h. rw (
+        other h (differs isLeave yes (stays-on .0)),
+        ap isGuard h ∙ sym guard ∙ p,
+        other h (differs isLeave yes (stays-on .1)),
+        other h (differs isLeave yes (stays-on .2)),
+        other h (differs isLeave yes (stays-on .3)),
+        ap isLeave h ∙ sym leave ∙ q,
+      )) d
 
       pub unlabelled-other :
           w ≡ false → Unlike kind (K.BEGIN ∷ K.RESULTIS ∷ K.SWITCHON ∷ K.FOR ∷ K.TEST ∷ [])
           → Command (C.assignmentOrCall (readers (within x))) s s′ n r r′ → Command (C.unlabelled (readers (within x))) s s′ n r r′
       unfolding C.unlabelled
-      unlabelled-other q u d =
-          let v = unlike5 u in
-          picked kinds (C.assignmentOrCall (readers (within x)))
-          (λ src at h. rw (
-            other h (v .0),
-            ap isGuard h ∙ sym guard ∙ p,
-            other h (v .1),
-            other h (v .2),
-            other h (v .3),
-            ap isLeave h ∙ sym leave
-                ∙ q,
-            other h (v .4),
-          ))
-          d
+      unlabelled-other q u d = let v = unlike5 u in picked kinds (C.assignmentOrCall (readers (within x))) (λ src at h. rw (
+        other h (v .0),
+        ap isGuard h ∙ sym guard ∙ p,
+        other h (v .1),
+        other h (v .2),
+        other h (v .3),
+        ap isLeave h ∙ sym leave ∙ q,
+        other h (v .4),
+      )) d

@@ -32,8 +32,7 @@ pub negated-name-read :
     → Reads first (λ at. leaf value at K.NAME) s s₁ r r₁ → Adds (recordFrom lo 0 place K.MINUS) s₁ s₂ r₁ r₂
     → Reads first (λ at. closed (leaf value at K.NAME) 0 place 36) s s₂ r r₂
 negated-name-read {first} size {value} {place} {lo} {s} {s₁} {s₂} {r} {r₁} {r₂} lo-is d a =
-    here (λ at. onOut (first at) (λ x m. ok x m)) (λ at free q. onOut-id (first at))
-    (bind size (λ at. leaf value at K.NAME) d (adds-on a)
+    here (λ at. onOut (first at) (λ x m. ok x m)) (λ at free q. onOut-id (first at)) (bind size (λ at. leaf value at K.NAME) d (adds-on a)
     (λ x q. added size a (record { same = ap (λ (z : ℕ). leaf value x K.NAME ++ (z ∷ 0 ∷ place ∷ K.MINUS ∷ [])) (omega arith) })))
 
 pub negative-shut :
@@ -51,8 +50,7 @@ module _ (x : ℕ) {s s₂ : List ℕ} {n : ℕ} {r r₁ r₂ : State} {p : ℕ}
   unfolding E.negative opening
   after-minus room b = (
     room,
-    λ src l. here (E.negative (inside (readers (within (x - 1)))) src)
-        (λ at free e. ap (λ (i : Inside). E.negative i src at) (deeper x deep))
+    λ src l. here (E.negative (inside (readers (within (x - 1)))) src) (λ at free e. ap (λ (i : Inside). E.negative i src at) (deeper x deep))
         (here _ (placed l (places src l) K.MINUS (omega arith) (λ place m. onOut (E.simple src m) (λ y q. ok (minus place y) q)))
         (bind 0 (λ _. []) (a .1 src l) (goes-on (b src l)) (λ _ _. b src l))),
   )
@@ -94,16 +92,13 @@ module _ (x : ℕ) {s s₂ : List ℕ} {n : ℕ} {r r₁ r₂ : State} {p : ℕ}
       r₁ r₂)
       → Reading 1 (E.negative (within x)) (Encodes encodeConstant) s s₂ n r r₂
   unfolding E.simple E.known encodeConstant encodeNegative encodeName
-  negative-name w d =
-      let u = unlike3 w in
+  negative-name w d = let u = unlike3 w in
       after-minus (room-left (left (a .0) less (d .0)) refl) (λ src l. here _ (λ at free e. let h = kinds src l .here at free e in
       rw (
         ne-eqb (kindAt src at) K.NUMBER (λ z. u .0 (h ∙ z)),
         ne-eqb (kindAt src at) K.TRUE (λ z. u .1 (h ∙ z)),
-        ne-eqb (kindAt src at) K.FALSE
-            (λ z. u .2 (h ∙ z)),
-      )
-      (nested p (aName src at) ∙ name-at l (values src l) (λ y m. ok (minus p (T.known y)) m) at free e))
+        ne-eqb (kindAt src at) K.FALSE (λ z. u .2 (h ∙ z)),
+      ) (nested p (aName src at) ∙ name-at l (values src l) (λ y m. ok (minus p (T.known y)) m) at free e))
       (mapped (λ at. minus p (T.known (nameOf at v))) (λ _. refl) (d .1 src l)))
 
 module _ (x : ℕ) {s s′ : List ℕ} {n : ℕ} {r r′ : State} {kind : ℕ} (kinds : KindsHere s n r kind) where

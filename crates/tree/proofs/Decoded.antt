@@ -25,8 +25,7 @@ dropped : (s : List ℕ) (i j k : ℕ) → j ≡ i + 3 → getD (drop 3 s) (i + 
 dropped s i j k e = getD-drop 3 s (i + k) 0 ∙ ap (λ (x : ℕ). getD s x 0) (omega arith)
 
 shifted : (s : List ℕ) (i j : ℕ) → j ≡ i + 3 → symbolFrom (drop 3 s) i ≡ symbolFrom s j
-shifted s i j e =
-    ap (λ (x : ℕ). record { kind = x; value = getD (drop 3 s) (i + 1) 0; place = getD (drop 3 s) (i + 2) 0 }) (getD-drop 3 s i 0
+shifted s i j e = ap (λ (x : ℕ). record { kind = x; value = getD (drop 3 s) (i + 1) 0; place = getD (drop 3 s) (i + 2) 0 }) (getD-drop 3 s i 0
     ∙ ap (λ (x : ℕ). getD s x 0) (omega arith))
     ∙ ap (λ (x : ℕ). record { kind = getD s j 0; value = x; place = getD (drop 3 s) (i + 2) 0 }) (dropped s i j 1 e)
     ∙ ap (λ (x : ℕ). record { kind = getD s j 0; value = getD s (j + 1) 0; place = x }) (dropped s i j 2 e)
@@ -44,13 +43,12 @@ decoded-at (suc n) s d (suc i) h = decoded-at n (drop 3 s) d i (omega arith) ∙
 
 pub lies : (s : List ℕ) (n size : ℕ) → HoldsSymbols (sourceIn s n size) n s
 unfolding sourceIn
-lies s n size =
-    record {
-      count = decoded-length n s;
-      kinds = λ i h. sym (ap (λ (x : Symbol). x .kind) (decoded-at n s _ i h));
-      values = λ i h. sym (ap (λ (x : Symbol). x .value) (decoded-at n s _ i h));
-      places = λ i h. sym (ap (λ (x : Symbol). x .place) (decoded-at n s _ i h));
-    }
+lies s n size = record {
+  count = decoded-length n s;
+  kinds = λ i h. sym (ap (λ (x : Symbol). x .kind) (decoded-at n s _ i h));
+  values = λ i h. sym (ap (λ (x : Symbol). x .value) (decoded-at n s _ i h));
+  places = λ i h. sym (ap (λ (x : Symbol). x .place) (decoded-at n s _ i h));
+}
 
 -- past the symbols, the place is the text's size
 pub place-past : (s : List ℕ) (n size at : ℕ) → n ≤ at → size ≡ placeAt (sourceIn s n size) at
@@ -60,9 +58,7 @@ place-past s n size at h = sym (ap (λ (x : Symbol). x .place) (List·getD-eq-de
 -- places stay where the symbols do
 module _ (s s′ : List ℕ) (n size at : ℕ) (e : take (n * 3) s′ ≡ take (n * 3) s) where
   place-kept : placeAt (sourceIn s′ n size) at ≡ placeAt (sourceIn s n size) at
-  place-kept =
-      by-cases (ltb at n)
-      (λ q. let h = ltb-true at n q in sym (lies s′ n size .places at h) ∙ lies-still (lies s n size) e .places at h)
+  place-kept = by-cases (ltb at n) (λ q. let h = ltb-true at n q in sym (lies s′ n size .places at h) ∙ lies-still (lies s n size) e .places at h)
       (λ q. let h = ltb-false at n q in sym (place-past s′ n size at h) ∙ place-past s n size at h)
 
 -- whether scratch is fit
@@ -85,8 +81,7 @@ module _ (room count : ℕ) where
   too-short-not h q = sym (ap (λ (b : Bool). cond b true (ltb (2 ^ 32 - 1) room)) (le-ltb room (count * 8 + 64) q) ∙ le-ltb (2 ^ 32 - 1) room h)
 
   pub too-short-rest : room ≤ 2 ^ 32 - 1 → 64 ≤ room → ltb ((room - 64) / 8) count ≡ tooShort room count
-  too-short-rest h q =
-      by-cases (ltb ((room - 64) / 8) count) (λ e. e ∙ too-short-few (omega (arith, ltb-true ((room - 64) / 8) count e)))
+  too-short-rest h q = by-cases (ltb ((room - 64) / 8) count) (λ e. e ∙ too-short-few (omega (arith, ltb-true ((room - 64) / 8) count e)))
       (λ e. e ∙ too-short-not h (omega (arith, ltb-false ((room - 64) / 8) count e)))
 
   fitBy : (b c : Bool) → ltb room (count * 8 + 64) ≡ b → ltb (2 ^ 32 - 1) room ≡ c → cond b true c ≡ false → (count * 8 + 64 ≤ room) × (room < 2 ^ 32)
@@ -101,26 +96,23 @@ module _ (room count : ℕ) where
 -- the reading may begin
 pub starts : (s : List ℕ) (n : ℕ) → tooShort (length s) n ≡ false → Ready 0 s n (Read 0 (n * 3))
 unfolding nextOf lowOf reach
-starts s n h =
-    let f = fit-is (length s) n h in
+starts s n h = let f = fit-is (length s) n h in
     record { placed = omega arith; above = omega arith; room = omega (arith, f); wide = omega (arith, f); small = f .1 }
 
 -- what is read
 pub tree-short : (s : List ℕ) (n size : ℕ) → tooShort (length s) n ≡ true → ReadsTree s n size TooShort s
 unfolding treeRead treeNumbers treeLeft
-tree-short s n size h =
-    record {
-      answers = sym (ap (λ (b : Bool). cond b TooShort (answerOf (sourceIn s n size) n (treeOf (sourceIn s n size)))) h);
-      numbers = sym (ap (λ (b : Bool). cond b (numbersOf TooShort) (numbersBy (sourceIn s n size) n (treeOf (sourceIn s n size)))) h);
-      leaves = sym (ap (λ (b : Bool). cond b s (leftBy n s (treeOf (sourceIn s n size)))) h);
-      room = tt;
-    }
+tree-short s n size h = record {
+  answers = sym (ap (λ (b : Bool). cond b TooShort (answerOf (sourceIn s n size) n (treeOf (sourceIn s n size)))) h);
+  numbers = sym (ap (λ (b : Bool). cond b (numbersOf TooShort) (numbersBy (sourceIn s n size) n (treeOf (sourceIn s n size)))) h);
+  leaves = sym (ap (λ (b : Bool). cond b s (leftBy n s (treeOf (sourceIn s n size)))) h);
+  room = tt;
+}
 
 -- the tree ends within the room
 within : {s s′ : List ℕ} {n next free : ℕ} {r : State} → LeavesRoom 0 s s′ n (Read 0 (n * 3)) r → r ≡ Read next free → free ≤ n * 8
 unfolding reach live
-within {n = n} {next} {free} f e =
-    let h : reach n (Read next free) + live (Read next free) * 0 ≤ reach n (Read 0 (n * 3)) = subst
+within {n = n} {next} {free} f e = let h : reach n (Read next free) + live (Read next free) * 0 ≤ reach n (Read 0 (n * 3)) = subst
     (λ (x : State). reach n x + live x * 0 ≤ reach n (Read 0 (n * 3))) e (f .leaves) in
     omega arith
 
@@ -140,23 +132,21 @@ answered :
     {s s″ : List ℕ} {n size : ℕ} {answer : TreeRead} → tooShort (length s) n ≡ false → (o : Out Program) → treeOf (sourceIn s n size) ≡ o
     → answer ≡ answerOf (sourceIn s n size) n o → s″ ≡ leftBy n s o → Within (n * 8) answer → ReadsTree s n size answer s″
 unfolding treeRead treeNumbers treeLeft
-answered {s} {n = n} {size} fit o e a w h =
-    record {
-      answers = a ∙ ap (answerOf (sourceIn s n size) n) (sym e)
-          ∙ sym (ap (λ (b : Bool). cond b TooShort (answerOf (sourceIn s n size) n (treeOf (sourceIn s n size)))) fit);
-      numbers = ap numbersOf a ∙ told (sourceIn s n size) n o ∙ ap (numbersBy (sourceIn s n size) n) (sym e)
-          ∙ sym (ap (λ (b : Bool). cond b (numbersOf TooShort) (numbersBy (sourceIn s n size) n (treeOf (sourceIn s n size)))) fit);
-      leaves = w ∙ ap (leftBy n s) (sym e) ∙ sym (ap (λ (b : Bool). cond b s (leftBy n s (treeOf (sourceIn s n size)))) fit);
-      room = h;
-    }
+answered {s} {n = n} {size} fit o e a w h = record {
+  answers = a ∙ ap (answerOf (sourceIn s n size) n) (sym e)
+      ∙ sym (ap (λ (b : Bool). cond b TooShort (answerOf (sourceIn s n size) n (treeOf (sourceIn s n size)))) fit);
+  numbers = ap numbersOf a ∙ told (sourceIn s n size) n o ∙ ap (numbersBy (sourceIn s n size) n) (sym e)
+      ∙ sym (ap (λ (b : Bool). cond b (numbersOf TooShort) (numbersBy (sourceIn s n size) n (treeOf (sourceIn s n size)))) fit);
+  leaves = w ∙ ap (leftBy n s) (sym e) ∙ sym (ap (λ (b : Bool). cond b s (leftBy n s (treeOf (sourceIn s n size)))) fit);
+  room = h;
+}
 
 module _ {s s′ s″ : List ℕ} {n size : ℕ} (fit : tooShort (length s) n ≡ false) (same : length s′ ≡ length s) where
   wrote :
       (next free : ℕ) → Wrote (program (sourceIn s n size) 0) (Encodes encodeProgram) (n * 3) s s′ next free → free ≤ n * 8
       → s″ ≡ take free s′ ++ replicate (length s′ - free) 0 → ReadsTree s n size (ReadTo free) s″
   unfolding treeOf
-  wrote next free w h c =
-      let q : free ≡ n * 3 + length (encodeProgram (w .tree)) = w .size ∙ ap (λ (x : List ℕ). n * 3 + length x) (w .says .same) in
+  wrote next free w h c = let q : free ≡ n * 3 + length (encodeProgram (w .tree)) = w .size ∙ ap (λ (x : List ℕ). n * 3 + length x) (w .says .same) in
       answered fit (ok (w .tree) next) (w .is) (ap ReadTo q)
       (cleared-is s s′ s″ (take (n * 3) s ++ encodeProgram (w .tree)) free same (omega (arith, fit-is (length s) n fit))
       (w .written ∙ ap (λ (x : List ℕ). take (n * 3) s ++ x) (w .says .same)) c)

@@ -43,8 +43,7 @@ answerWith room text = then room (length text) (symbolsOf text)
 
 -- the six symbols of LET F() = 1: kind, value and place of each
 abbrev six : List ℕ
-six =
-    (K.LET ∷ 3 ∷ 0 ∷ []) ++ (K.NAME ∷ 1 ∷ 4 ∷ []) ++ (K.OPEN ∷ 0 ∷ 5 ∷ []) ++ (K.CLOSE ∷ 0 ∷ 6 ∷ []) ++ (K.EQUAL ∷ 0 ∷ 8 ∷ []) ++
+six = (K.LET ∷ 3 ∷ 0 ∷ []) ++ (K.NAME ∷ 1 ∷ 4 ∷ []) ++ (K.OPEN ∷ 0 ∷ 5 ∷ []) ++ (K.CLOSE ∷ 0 ∷ 6 ∷ []) ++ (K.EQUAL ∷ 0 ∷ 8 ∷ []) ++
     (K.NUMBER ∷ 1 ∷ 10 ∷ [])
 
 -- they stand at the beginning of scratch of 8 * 6 + 64 entries, and zeros after them
@@ -105,8 +104,7 @@ chain = refl
 
 -- a call with two arguments, and an index, which is last: each has its size and its tag behind it
 index-last :
-    bodyIn 28 "LET G() = F(A,B)!C" ≡
-    (0 ∷ 1 ∷ 10 ∷ K.NAME ∷ []) ++ (4 ∷ 0 ∷ 0 ∷ 1 ∷ 12 ∷ K.NAME ∷ 4 ∷ 0 ∷ 0 ∷ 1 ∷ 14 ∷ K.NAME ∷ 12 ∷ K.OPEN ∷ []) ++
+    bodyIn 28 "LET G() = F(A,B)!C" ≡ (0 ∷ 1 ∷ 10 ∷ K.NAME ∷ []) ++ (4 ∷ 0 ∷ 0 ∷ 1 ∷ 12 ∷ K.NAME ∷ 4 ∷ 0 ∷ 0 ∷ 1 ∷ 14 ∷ K.NAME ∷ 12 ∷ K.OPEN ∷ []) ++
     (0 ∷ 1 ∷ 17 ∷ K.NAME ∷ 4 ∷ K.PLING ∷ []) ++ (24 ∷ 4 ∷ 10 ∷ SUFFIXED ∷ [])
 unfolding bodyIn
 index-last = refl

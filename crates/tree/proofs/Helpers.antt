@@ -8,29 +8,22 @@ use Rattle.tree.specs.declared.scratch.State.the-variants.{Read, Refused
 
 -- one entry and then the next
 put2 : (s : List ℕ) (i x y : ℕ) → i + 2 ≤ length s → take (i + 2) (set (set s i x) (i + 1) y) ≡ take i s ++ (x ∷ y ∷ [])
-put2 s i x y h =
-    let e2 : i + 2 ≡ suc (i + 1) = omega arith in
+put2 s i x y h = let e2 : i + 2 ≡ suc (i + 1) = omega arith in
     let e1 : i + 1 ≡ suc i = omega arith in
     let l1 : i < length s = omega arith in
     let l2 : i + 1 < length (set s i x) = simp length-set (omega arith) in
-    ap (λ (m : ℕ). take m (set (set s i x) (i + 1) y)) e2
-    ∙ take-suc-set (set s i x) (i + 1) y l2
-    ∙ ap (λ (l : List ℕ). l ++ (y ∷ [])) (ap (λ (m : ℕ). take m (set s i x)) e1 ∙ take-suc-set s i x l1)
-    ∙ append-assoc (take i s) (x ∷ []) (y ∷ [])
+    ap (λ (m : ℕ). take m (set (set s i x) (i + 1) y)) e2 ∙ take-suc-set (set s i x) (i + 1) y l2
+    ∙ ap (λ (l : List ℕ). l ++ (y ∷ [])) (ap (λ (m : ℕ). take m (set s i x)) e1 ∙ take-suc-set s i x l1) ∙ append-assoc (take i s) (x ∷ []) (y ∷ [])
 
 put4 :
     (s : List ℕ) (i x y z w : ℕ) → i + 4 ≤ length s
     → take (i + 4) (set (set (set (set s i x) (i + 1) y) (i + 2) z) (i + 3) w) ≡ take i s ++ (x ∷ y ∷ z ∷ w ∷ [])
-put4 s i x y z w h =
-    let t : List ℕ = set (set s i x) (i + 1) y in
+put4 s i x y z w h = let t : List ℕ = set (set s i x) (i + 1) y in
     let e4 : i + 4 ≡ i + 2 + 2 = omega arith in
     let e3 : i + 3 ≡ i + 2 + 1 = omega arith in
     let l : i + 2 + 2 ≤ length t = simp length-set (omega arith) in
-    ap (λ (m : ℕ). take m (set (set t (i + 2) z) (i + 3) w)) e4
-    ∙ ap (λ (m : ℕ). take (i + 2 + 2) (set (set t (i + 2) z) m w)) e3
-    ∙ put2 t (i + 2) z w l
-    ∙ ap (λ (a : List ℕ). a ++ (z ∷ w ∷ [])) (put2 s i x y (omega arith))
-    ∙ append-assoc (take i s) (x ∷ y ∷ []) (z ∷ w ∷ [])
+    ap (λ (m : ℕ). take m (set (set t (i + 2) z) (i + 3) w)) e4 ∙ ap (λ (m : ℕ). take (i + 2 + 2) (set (set t (i + 2) z) m w)) e3
+    ∙ put2 t (i + 2) z w l ∙ ap (λ (a : List ℕ). a ++ (z ∷ w ∷ [])) (put2 s i x y (omega arith)) ∙ append-assoc (take i s) (x ∷ y ∷ []) (z ∷ w ∷ [])
 
 -- what stands below stays
 pub below : (s s′ : List ℕ) (k i m : ℕ) (w : List ℕ) → take m s′ ≡ take i s ++ w → k ≤ i → i ≤ m → i ≤ length s → take k s′ ≡ take k s
@@ -96,45 +89,38 @@ base {m} {n} {s} {r} h = baseBy n (length s) r (h .above) (omega (arith, h .wide
 -- the room that a state has, and what it leaves
 module _ {m : ℕ} {s : List ℕ} {n : ℕ} {r : State} (h : Ready m s n r) where
   pub refused-fits : {k p q : ℕ} → LeavesRoom k s s n r (Refused p q)
-  refused-fits {k} {p} {q} =
-      let f = refused-facts n p q in
+  refused-fits {k} {p} {q} = let f = refused-facts n p q in
       record {
         placed = omega (arith, f);
         above = omega (arith, f);
         leaves = rw (f .2) (omega (arith, f));
         lives = omega (arith, f);
-        dead = omega
-            (arith, f);
+        dead = omega (arith, f);
         kept = refl;
       }
 
   pub refused-grows : {k p q : ℕ} → TakesRoom k s s n r (Refused p q)
-  refused-grows {k} {p} {q} =
-      let f = refused-facts n p q in
+  refused-grows {k} {p} {q} = let f = refused-facts n p q in
       record {
         placed = omega (arith, f);
         above = omega (arith, f);
         more = rw (f .2) (omega (arith, f));
         lives = omega (arith, f);
-        dead = omega
-            (arith, f);
+        dead = omega (arith, f);
         kept = refl;
       }
 
   module _ {at free : ℕ} (e : r ≡ Read at free) where
     pub next-fits : at < n → LeavesRoom 5 s s n r (Read (at + 1) free)
-    next-fits l =
-        let f = read-facts n (at + 1) free in
-        let g = facts-read e n in
-        record {
-          placed = omega (arith, f);
-          above = omega (arith, f, g, h .above);
-          leaves = omega (arith, f, g);
-          lives = omega (arith, f, g);
-          dead
-              = omega (arith, f, g, h .room, h .small);
-          kept = refl;
-        }
+    next-fits l = let f = read-facts n (at + 1) free in let g = facts-read e n in record {
+      placed = omega (arith, f);
+      above = omega (arith, f, g, h .above);
+      leaves = omega (arith, f, g);
+      lives = omega (arith, f, g);
+      dead
+          = omega (arith, f, g, h .room, h .small);
+      kept = refl;
+    }
 
     pub room-is : (free + m ≤ length s) × (n * 3 ≤ free) × (at ≤ n) × (length s < 2 ^ 32) × (n * 3 + 64 ≤ length s)
     room-is = omega (arith, facts-read e n, h .room, h .above, h .placed, h .small, h .wide)
@@ -142,21 +128,17 @@ module _ {m : ℕ} {s : List ℕ} {n : ℕ} {r : State} (h : Ready m s n r) wher
     module _ (words : ℕ → List ℕ) (s′ : List ℕ) (k nf : ℕ) (el : nf ≡ free + k) (len : length (words free) ≡ k) (le : k ≤ m)
         (w : take nf s′ ≡ take free s ++ words free) where
       added-grows : TakesRoom k s s′ n r (Read at nf)
-      added-grows =
-          let f = read-facts n at nf in
-          let g = facts-read e n in
-          record {
-            placed = omega (arith, f, room-is);
-            above = omega (arith, f, room-is);
-            more = rw (f .2) (omega (arith, f, g));
-            lives = omega (arith, f, g);
-            dead = omega (arith, f, g, h .room, h .small);
-            kept = below s s′ (n * 3) free nf (words free) w (omega (arith, room-is)) (omega arith) (omega (arith, room-is));
-          }
+      added-grows = let f = read-facts n at nf in let g = facts-read e n in record {
+        placed = omega (arith, f, room-is);
+        above = omega (arith, f, room-is);
+        more = rw (f .2) (omega (arith, f, g));
+        lives = omega (arith, f, g);
+        dead = omega (arith, f, g, h .room, h .small);
+        kept = below s s′ (n * 3) free nf (words free) w (omega (arith, room-is)) (omega arith) (omega (arith, room-is));
+      }
 
       added-adds : Adds words s s′ r (Read at nf)
-      added-adds =
-          let q : nf ≡ free + length (words free) = omega arith in
+      added-adds = let q : nf ≡ free + length (words free) = omega arith in
           record { by = rw e (ap (λ (x : ℕ). Read at x) q, ap (λ (x : ℕ). take x s′) (sym q) ∙ w) }
 
 -- the entries that are written behind, and the state after them
@@ -165,8 +147,7 @@ module _ {s : List ℕ} {n : ℕ} {r : State} {at free : ℕ} (e : r ≡ Read at
       Ready 4 s n r → (lo v p k : ℕ) {z : ℕ} → z ≡ free - lo
       → TakesRoom 4 s (set (set (set (set s free z) (free + 1) v) (free + 2) p) (free + 3) k) n r (Read at (free + 4))
       × Adds (recordFrom lo v p k) s (set (set (set (set s free z) (free + 1) v) (free + 2) p) (free + 3) k) r (Read at (free + 4))
-  record-written h lo v p k q =
-      let w = put4 s free _ v p k (room-is h e .0) ∙ ap (λ (y : ℕ). take free s ++ (y ∷ v ∷ p ∷ k ∷ [])) q in
+  record-written h lo v p k q = let w = put4 s free _ v p k (room-is h e .0) ∙ ap (λ (y : ℕ). take free s ++ (y ∷ v ∷ p ∷ k ∷ [])) q in
       (added-grows h e (recordFrom lo v p k) _ 4 _ refl refl (omega arith) w, added-adds h e (recordFrom lo v p k) _ 4 _ refl refl (omega arith) w)
 
   module _ (h : Ready 2 s n r) (tag : ℕ) where
@@ -174,15 +155,13 @@ module _ {s : List ℕ} {n : ℕ} {r : State} {at free : ℕ} (e : r ≡ Read at
         (lo : ℕ) {z : ℕ} → z ≡ free - lo
         → TakesRoom 2 s (set (set s free z) (free + 1) tag) n r (Read at (free + 2))
         × Adds (behindFrom lo tag) s (set (set s free z) (free + 1) tag) r (Read at (free + 2))
-    item-ended lo q =
-        let w = put2 s free _ tag (room-is h e .0) ∙ ap (λ (y : ℕ). take free s ++ (y ∷ tag ∷ [])) q in
+    item-ended lo q = let w = put2 s free _ tag (room-is h e .0) ∙ ap (λ (y : ℕ). take free s ++ (y ∷ tag ∷ [])) q in
         (added-grows h e (behindFrom lo tag) _ 2 _ refl refl (omega arith) w, added-adds h e (behindFrom lo tag) _ 2 _ refl refl (omega arith) w)
 
     pub item-begun :
         TakesRoom 2 s (set (set s free 0) (free + 1) tag) n r (Read at (free + 2))
         × Adds (λ _. 0 ∷ tag ∷ []) s (set (set s free 0) (free + 1) tag) r (Read at (free + 2))
-    item-begun =
-        let w = put2 s free 0 tag (room-is h e .0) in
+    item-begun = let w = put2 s free 0 tag (room-is h e .0) in
         (added-grows h e (λ _. 0 ∷ tag ∷ []) _ 2 _ refl refl (omega arith) w, added-adds h e (λ _. 0 ∷ tag ∷ []) _ 2 _ refl refl (omega arith) w)
 
 pub adds-refused : {words : ℕ → List ℕ} {s s′ : List ℕ} {r : State} {k p : ℕ} → r ≡ Refused k p → Adds words s s′ r (Refused k p)
@@ -202,15 +181,14 @@ deadBy n (Refused k p) h = omega arith
 -- the size of an item is set
 module _ {s : List ℕ} {n : ℕ} {r : State} {lo : ℕ} (h : Ready 0 s n r) (l : n * 3 ≤ lo) where
   pub set-size-fits : (s′ : List ℕ) → take (n * 3) s′ ≡ take (n * 3) s → LeavesRoom 0 s s′ n r r
-  set-size-fits s′ e =
-      record {
-        placed = h .placed;
-        above = h .above;
-        leaves = omega arith;
-        lives = omega arith;
-        dead = deadBy n r (omega (arith, h .room, h .small));
-        kept = e;
-      }
+  set-size-fits s′ e = record {
+    placed = h .placed;
+    above = h .above;
+    leaves = omega arith;
+    lives = omega arith;
+    dead = deadBy n r (omega (arith, h .room, h .small));
+    kept = e;
+  }
 
   pub set-kept : (z : ℕ) → take (n * 3) (set s lo z) ≡ take (n * 3) s
   set-kept z = take-set s (n * 3) lo z ∙ set-past (take (n * 3) s) lo z (omega (arith, length-take-le (n * 3) s (omega (arith, h .wide))))
@@ -226,12 +204,11 @@ pub sized-refused : {lo : ℕ} {s s′ : List ℕ} {r : State} {k p : ℕ} → r
 sized-refused e = record { by = rw e tt }
 
 pub itself : {m : ℕ} {s : List ℕ} {n : ℕ} {r : State} → Ready m s n r → LeavesRoom 0 s s n r r
-itself {m} {s} {n} {r} h =
-    record {
-      placed = h .placed;
-      above = h .above;
-      leaves = omega arith;
-      lives = omega arith;
-      dead = deadBy n r (omega (arith, h .room, h .small));
-      kept = refl;
-    }
+itself {m} {s} {n} {r} h = record {
+  placed = h .placed;
+  above = h .above;
+  leaves = omega arith;
+  lives = omega arith;
+  dead = deadBy n r (omega (arith, h .room, h .small));
+  kept = refl;
+}

@@ -29,10 +29,8 @@ module _ {src : Source} {n : ℕ} {s : List ℕ} (l : HoldsSymbols src n s) {r :
       (size : ℕ) {p kind value tag lo : ℕ} {s′ : List ℕ} {r₁ r₂ : State} → Here (placeAt src) n r p → 0 < kind
       → Reads (the kind src) (λ _. []) s s r r₁ → lo ≡ freeOf size r₁ → Adds (recordFrom lo value p tag) s s′ r₁ r₂
       → Reads (the kind src) (λ place. leaf value place tag) s s′ r r₂
-  leaf-read size {p} {kind} {value} {tag} {lo} {s′} {r₁} {r₂} h pos d e a =
-      let z : freeOf size r₁ - lo ≡ 0 = omega arith in
-      here (λ at. onOut (the kind src at) (λ _ m. ok p m))
-      (λ at free q. onOut-id (the kind src at) ∙ placed l h kind pos (λ x m. ok x m) at free q)
+  leaf-read size {p} {kind} {value} {tag} {lo} {s′} {r₁} {r₂} h pos d e a = let z : freeOf size r₁ - lo ≡ 0 = omega arith in
+      here (λ at. onOut (the kind src at) (λ _ m. ok p m)) (λ at free q. onOut-id (the kind src at) ∙ placed l h kind pos (λ x m. ok x m) at free q)
       (bind size (λ _. []) d (adds-on a) (λ _ _. added size a (record { same = ap (λ (x : ℕ). x ∷ value ∷ p ∷ tag ∷ []) z })))
 
 -- what `value_here` ensures, whatever the source
@@ -56,12 +54,10 @@ module _ {s s′ : List ℕ} {n : ℕ} {r r′ : State} {v : ℕ} (values : Valu
       → ((src : Source) (at : ℕ) → kindAt src at ≡ x → v ≡ valueAt src at → read src at ≡ ok (F (placeAt src at)) (at + 1))
       → ((place : ℕ) → enc (F place) ≡ words place) → kind ≡ x → (src : Source) → HoldsSymbols src n s → KindHere src r kind
       → Reads (the x src) words s s′ r r′ → Reads (read src) enc s s′ r r′
-  symbol-is {x = x} F pos e law q src l k d =
-      here (λ at. onOut (the x src at) (λ place m. ok (F place) m))
+  symbol-is {x = x} F pos e law q src l k d = here (λ at. onOut (the x src at) (λ place m. ok (F place) m))
       (λ at free h. let y : kindAt src at ≡ x = sym (k .here at free h) ∙ q in
       e src at y (values src l .here at free h (inside l at (omega arith)))
-      ∙ sym (ap (λ (o : Out ℕ). onOut o (λ place m. ok (F place) m)) (the-is src x at y)))
-      (mapped F law d)
+      ∙ sym (ap (λ (o : Out ℕ). onOut o (λ place m. ok (F place) m)) (the-is src x at y))) (mapped F law d)
 
   module _ {kind : ℕ} where
     symbol-leaf :
@@ -109,35 +105,30 @@ pub other-read :
     {s : List ℕ} {n : ℕ} {r r′ : State} {kind : ℕ} → Unlike kind (K.NAME ∷ K.FALSE ∷ K.TRUE ∷ K.STRING ∷ K.NUMBER ∷ []) → Refusing 6 s n r r′
     → ReadingAt kind 1 atomic (Encodes encode) s s n r r′
 unfolding atomic unexpected
-other-read {kind = kind} w g =
-    let u = unlike5 w in (
-      leaves-less (g .0) refl,
-      λ src l k. stopped (λ at free e. let h = k .here at free e in
-          rw (
-            ne-eqb _ _ (λ x. u .0 (h ∙ x)),
-            ne-eqb _ _ (λ x. u .1 (h ∙ x)),
-            ne-eqb _ _ (λ x. u .2 (h ∙ x)),
-            ne-eqb _ _ (λ x. u .3 (h ∙ x)),
-            ne-eqb _ _
-                (λ x. u .4 (h ∙ x)),
-          )) (g .1),
-    )
+other-read {kind = kind} w g = let u = unlike5 w in (
+  leaves-less (g .0) refl,
+  λ src l k. stopped (λ at free e. let h = k .here at free e in rw (
+    ne-eqb _ _ (λ x. u .0 (h ∙ x)),
+    ne-eqb _ _ (λ x. u .1 (h ∙ x)),
+    ne-eqb _ _ (λ x. u .2 (h ∙ x)),
+    ne-eqb _ _ (λ x. u .3 (h ∙ x)),
+    ne-eqb _ _ (λ x. u .4 (h ∙ x)),
+  )) (g .1),
+)
 
 -- a word that leaves something
 pub leave-read :
     {src : Source} {kind : ℕ} {s s′ : List ℕ} {r r′ : State} → KindHere src r kind → Reads (the kind src) (λ place. leaf 0 place kind) s s′ r r′
     → Reads (leaving src) encodeUnlabelled s s′ r r′
 unfolding leaving any encodeUnlabelled
-leave-read {src} {kind} k d =
-    here _ (λ at free e. let q = k .here at free e in ap (λ (y : ℕ). ok (T.leave y (placeAt src at)) (at + 1)) (sym q)
+leave-read {src} {kind} k d = here _ (λ at free e. let q = k .here at free e in ap (λ (y : ℕ). ok (T.leave y (placeAt src at)) (at + 1)) (sym q)
     ∙ sym (ap (λ (o : Out ℕ). onOut o (λ place m. ok (T.leave kind place) m)) (the-is src kind at (sym q)))) (mapped (T.leave kind) (λ _. refl) d)
 
 -- a number and its record at another place
 pub negated-read :
     {first : ℕ → Out ℕ} (size : ℕ) {value place lo : ℕ} {s s′ : List ℕ} {r r₁ r₂ : State} → Reads first (λ _. []) s s r r₁ → lo ≡ freeOf size r₁
     → Adds (recordFrom lo value place K.MINUS) s s′ r₁ r₂ → Reads first (λ _. leaf value place K.MINUS) s s′ r r₂
-negated-read {first} size {value} {place} {lo} {s} {s′} {r} {r₁} {r₂} d e a =
-    let z : freeOf size r₁ - lo ≡ 0 = omega arith in
+negated-read {first} size {value} {place} {lo} {s} {s′} {r} {r₁} {r₂} d e a = let z : freeOf size r₁ - lo ≡ 0 = omega arith in
     here (λ at. onOut (first at) (λ x m. ok x m)) (λ at free q. onOut-id (first at))
     (bind size (λ _. []) d (adds-on a) (λ _ _. added size a (record { same = ap (λ (x : ℕ). x ∷ value ∷ place ∷ K.MINUS ∷ []) z })))
 
@@ -179,17 +170,13 @@ pub positive-name :
     {s s′ : List ℕ} {n : ℕ} {r r′ : State} {kind v : ℕ} → ValuesHere s n r v → Unlike kind (K.FALSE ∷ K.TRUE ∷ K.NUMBER ∷ [])
     → Reading 1 (the K.NAME) (Encodes (λ place. leaf v place K.NAME)) s s′ n r r′ → ReadingAt kind 1 positive (Encodes encodeConstant) s s′ n r r′
 unfolding positive place-here simple knownName encodeConstant encodePositive encodeName
-positive-name {v = v} values w d =
-    let u = unlike3 w in (
-      d .0,
-      λ src l k. here _ (λ at free e. let h = k .here at free e in
-          rw (
-            ne-eqb (kindAt src at) K.NUMBER (λ x. u .0 (h ∙ x)),
-            ne-eqb (kindAt src at) K.TRUE (λ x. u .1 (h ∙ x)),
-            ne-eqb (kindAt src at) K.FALSE
-                (λ x. u .2 (h ∙ x)),
-          )
-          (nested-name (aName src at) (placeAt src at) ∙ name-at l (values src l) (λ y m. ok (plain (placeAt src at) (T.known y)) m) at free e
-          ∙ the-place src K.NAME at (λ p q m. ok (plain q (T.known (nameOf p v))) m)))
-          (mapped (λ place. plain place (T.known (nameOf place v))) (λ _. refl) (d .1 src l)),
-    )
+positive-name {v = v} values w d = let u = unlike3 w in (
+  d .0,
+  λ src l k. here _ (λ at free e. let h = k .here at free e in rw (
+    ne-eqb (kindAt src at) K.NUMBER (λ x. u .0 (h ∙ x)),
+    ne-eqb (kindAt src at) K.TRUE (λ x. u .1 (h ∙ x)),
+    ne-eqb (kindAt src at) K.FALSE (λ x. u .2 (h ∙ x)),
+  ) (nested-name (aName src at) (placeAt src at) ∙ name-at l (values src l) (λ y m. ok (plain (placeAt src at) (T.known y)) m) at free e
+      ∙ the-place src K.NAME at (λ p q m. ok (plain q (T.known (nameOf p v))) m)))
+      (mapped (λ place. plain place (T.known (nameOf place v))) (λ _. refl) (d .1 src l)),
+)

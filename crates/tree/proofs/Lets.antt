@@ -51,8 +51,7 @@ module _ (x : ℕ) (src : Source) where
       (λ put m. onOut (C.further (readers (within x)) (t - 1) src m) (λ more q. ok (put more) q))
   unfolding C.further aFurther
   value-turn zero at h = absurd (omega arith)
-  value-turn (suc t) at h =
-      let q : t ≡ suc t - 1 = omega arith in
+  value-turn (suc t) at h = let q : t ≡ suc t - 1 = omega arith in
       after-comma t (the K.COMMA src at)
       ∙ ap (λ (u : ℕ). onOut (aFurther x src at) (λ put m. onOut (C.further (readers (within x)) u src m) (λ more q. ok (put more) q))) q
 
@@ -122,8 +121,7 @@ vector-is kind further e = byBool (eqb kind K.VEC) refl e
     byBool false q h = let z : _≡_ {A = ℕ} 0 1 = ap (λ (b : Bool). cond b 1 0) h in absurd (omega arith)
 
 pub vector-not : (kind further : ℕ) → cond (eqb kind K.VEC) (eqb further 0) false ≡ false → further ≡ 0 → kind ≡ K.VEC → ⊥
-vector-not kind further e q p =
-    let y : cond (eqb kind K.VEC) (eqb further 0) false ≡ true = rw (eq-eqb kind K.VEC p, eq-eqb further 0 q) refl in
+vector-not kind further e q p = let y : cond (eqb kind K.VEC) (eqb further 0) false ≡ true = rw (eq-eqb kind K.VEC p, eq-eqb further 0 q) refl in
     let z : _≡_ {A = ℕ} 1 0 = ap (λ (b : Bool). cond b 1 0) (sym y ∙ e) in
     omega arith
 
@@ -161,8 +159,7 @@ pub local-read :
     → Follows (C.local (readers (within x)) src) (Prepends encodeLocals) s s₅ r r₆
 unfolding C.local furtherItems many C.furtherName aFurtherName encodeNames
 local-read src {n} size x {lo} {start} {further} {s} {s₁} {s₂} {s₃} {s₄} {s₅} {r} {r₀} {r₁} {r₂} {r₃} {r₄} {r₅} {r₆} en lo-is le st fu a b c
-    d f g gp o z =
-    let op = goes-on o in
+    d f g gp o z = let op = goes-on o in
     let fp = goes-on f then gp then op in
     bind size (λ _. []) a (adds-on b then goes-on c then goes-on d then fp) (λ _ q₀.
     sized (Prepends encodeLocals) K.LET size (λ put w h. record { puts = h .puts; some = omega arith }) le (omega arith) b

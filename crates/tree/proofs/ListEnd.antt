@@ -20,10 +20,8 @@ kindAfterBy :
     {A : Type 0} (read : ℕ → Out A) (Says : A → List ℕ → Type 0) (s s′ : List ℕ) (src : Source) (kind at free : ℕ) (r₁ : State) (a : A) (m : ℕ)
     → FollowsBy read Says s s′ (Read at free) r₁ → KindHere src r₁ kind → read at ≡ ok a m → kind ≡ kindAt src m
 unfolding past
-kindAfterBy read Says s s′ src kind at free (Refused k p) a m d h e =
-    let z : _≡_ {A = ℕ} 0 (suc m) = ap past (sym d ∙ e) in absurd (omega arith)
-kindAfterBy read Says s s′ src kind at free (Read next nf) a m d h e =
-    let z : suc next ≡ suc m = ap past (sym (d .is) ∙ e) in
+kindAfterBy read Says s s′ src kind at free (Refused k p) a m d h e = let z : _≡_ {A = ℕ} 0 (suc m) = ap past (sym d ∙ e) in absurd (omega arith)
+kindAfterBy read Says s s′ src kind at free (Read next nf) a m d h e = let z : suc next ≡ suc m = ap past (sym (d .is) ∙ e) in
     h .here next nf refl ∙ ap (kindAt src) (omega arith)
 
 kind-after :
@@ -39,8 +37,7 @@ module _ {A : Type 0} (none : A) (one : Reader (A → A)) (src : Source) where
 
   -- what follows a semicolon
   abbrev orEnd : (t at : ℕ) → Out A
-  orEnd t at =
-      elim (eqb (kindAt src at) K.END) as (λ _. Out A)
+  orEnd t at = elim (eqb (kindAt src at) K.END) as (λ _. Out A)
       [ true ↦ ok none (at + 1) | false ↦ onOut (one src at) (λ put m. onOut (moreUpTo t none one src m) (λ more q. ok (put more) q)) ]
 
   end-here : (t at : ℕ) → 0 < t → kindAt src at ≡ K.END → moreUpTo t none one src at ≡ onOut (the K.END src at) (λ _ m. ok none m)
@@ -52,8 +49,7 @@ module _ {A : Type 0} (none : A) (one : Reader (A → A)) (src : Source) where
       (t at : ℕ) → 0 < t → (kindAt src at ≡ K.END → ⊥) → moreUpTo t none one src at ≡ onOut (the K.SEMICOLON src at) (λ _ m. orEnd (t - 1) m)
   unfolding moreUpTo
   semicolon-here zero at h e = absurd (omega arith)
-  semicolon-here (suc t) at h e =
-      let q : t ≡ suc t - 1 = omega arith in
+  semicolon-here (suc t) at h e = let q : t ≡ suc t - 1 = omega arith in
       not-so _ _ (ne-eqb (kindAt src at) K.END e) ∙ ap (λ (u : ℕ). onOut (the K.SEMICOLON src at) (λ _ m. orEnd u m)) q
 
   -- the same after the semicolon, where the symbol behind it is known
@@ -73,8 +69,7 @@ module _ {A : Type 0} (none : A) (one : Reader (A → A)) (src : Source) where
     pub list-semicolon-end :
         {kind₁ : ℕ} {r₁ r₂ : State} → (kind ≡ K.END → ⊥) → KindHere src r₁ kind₁ → kind₁ ≡ K.END → Reads (the K.SEMICOLON src) (λ _. []) s s r r₁
         → Reads (the K.END src) (λ _. []) s s r₁ r₂ → Reads (moreUpTo t none one src) enc s s r r₂
-    list-semicolon-end {kind₁} q k₁ q₁ d d₁ =
-        here (λ at. onOut (the K.SEMICOLON src at) (λ _ m. onOut (the K.END src m) (λ _ w. ok none w)))
+    list-semicolon-end {kind₁} q k₁ q₁ d d₁ = here (λ at. onOut (the K.SEMICOLON src at) (λ _ m. onOut (the K.END src m) (λ _ w. ok none w)))
         (λ at free e. semicolon-here t at some (λ y. q (k .here at free e ∙ y))
         ∙ behind at (λ m. orEnd (t - 1) m) (λ m. onOut (the K.END src m) (λ _ w. ok none w))
         (λ p m h. let y : kindAt src m ≡ K.END = sym (kind-after d k₁ at free e p m h) ∙ q₁ in so _ _ (eq-eqb (kindAt src m) K.END y)
@@ -91,8 +86,7 @@ module _ {A : Type 0} (none : A) (one : Reader (A → A)) (src : Source) where
     pub list-more :
         (t : ℕ) → 0 < t → (at free : ℕ) → r ≡ Read at free
         → moreUpTo t none one src at ≡ onOut (afterSemicolon at) (λ put m. onOut (moreUpTo (t - 1) none one src m) (λ more w. ok (put more) w))
-    list-more t some at free e =
-        semicolon-here t at some (λ y. q (k .here at free e ∙ y))
+    list-more t some at free e = semicolon-here t at some (λ y. q (k .here at free e ∙ y))
         ∙ behind at (λ m. orEnd (t - 1) m) (λ m. onOut (one src m) (λ put w. onOut (moreUpTo (t - 1) none one src w) (λ more x. ok (put more) x)))
         (λ p m h. not-so _ _ (ne-eqb (kindAt src m) K.END (λ y. q₁ (kind-after d k₁ at free e p m h ∙ y))))
         ∙ assoc (the K.SEMICOLON src at) (λ put w. onOut (moreUpTo (t - 1) none one src w) (λ more x. ok (put more) x))

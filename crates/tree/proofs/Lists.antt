@@ -75,10 +75,9 @@ onOut-put (no k p) put put′ = refl
 module _ {A : Type 0} {read : ℕ → Out A} {Says : (A → A) → List ℕ → Type 0} where
   pub begins-as : {s : List ℕ} {r : State} → Says (λ x. x) [] → PartlyAs read read Says s s r r
   begins-as {r = Refused k p} h = record { by = refl }
-  begins-as {s = s} {r = Read at free} h =
-      record {
-        by = record { put = λ x. x; words = []; is = onOut-id (read at); says = h; written = sym (append-nil (take free s)); size = omega arith };
-      }
+  begins-as {s = s} {r = Read at free} h = record {
+    by = record { put = λ x. x; words = []; is = onOut-id (read at); says = h; written = sym (append-nil (take free s)); size = omega arith };
+  }
 
   module _ {rest : ℕ → Out A} {s₀ s₁ s₂ : List ℕ} where
     pub more-as :
@@ -90,26 +89,22 @@ module _ {A : Type 0} {read : ℕ → Out A} {Says : (A → A) → List ℕ → 
         record { by = subst (λ (x : State). FollowsBy one One s₁ s₂ x r₂) (d .by) (g .by) }
     more-as rest′ {Says′ = Says′} {r₀ = Read at free} {r₁ = Refused k p} both e d g =
         record { by = subst (λ (x : State). PartlyBy read rest′ Says′ s₀ s₂ (Read at free) x) (sym (g .by)) (d .by) }
-    more-as rest′ {r₀ = Read at free} {r₁ = Read m nf} {r₂ = Refused k p} both e d g =
-        record {
-          by = d .by .is ∙ ap (λ (o : Out A). onOut o (λ more q. ok (d .by .put more) q))
-              (e m nf refl ∙ ap (λ (o : Out (A → A)). onOut o (λ put q. onOut (rest′ q) (λ more x. ok (put more) x))) (g .by));
-        }
-    more-as rest′ {r₀ = Read at free} {r₁ = Read m nf} {r₂ = Read q mf} both e d g =
-        let v = d .by in
-        let w = g .by in
-        record {
-          by = record {
-            put = λ x. v .put (w .tree x);
-            words = v .words ++ w .words;
-            is = v .is ∙ ap (λ (o : Out A). onOut o (λ more x. ok (v .put more) x))
-                (e m nf refl ∙ ap (λ (o : Out (A → A)). onOut o (λ put x. onOut (rest′ x) (λ more y. ok (put more) y))) (w .is))
-                ∙ onOut-put (rest′ q) (v .put) (w .tree);
-            says = both (v .put) (w .tree) (v .words) (w .words) (v .says) (w .says);
-            written = w .written ∙ ap (λ (l : List ℕ). l ++ w .words) (v .written) ∙ append-assoc (take free s₀) (v .words) (w .words);
-            size = omega (arith, v .size, w .size, length-append (v .words) (w .words));
-          };
-        }
+    more-as rest′ {r₀ = Read at free} {r₁ = Read m nf} {r₂ = Refused k p} both e d g = record {
+      by = d .by .is ∙ ap (λ (o : Out A). onOut o (λ more q. ok (d .by .put more) q))
+          (e m nf refl ∙ ap (λ (o : Out (A → A)). onOut o (λ put q. onOut (rest′ q) (λ more x. ok (put more) x))) (g .by));
+    }
+    more-as rest′ {r₀ = Read at free} {r₁ = Read m nf} {r₂ = Read q mf} both e d g = let v = d .by in let w = g .by in record {
+      by = record {
+        put = λ x. v .put (w .tree x);
+        words = v .words ++ w .words;
+        is = v .is ∙ ap (λ (o : Out A). onOut o (λ more x. ok (v .put more) x))
+            (e m nf refl ∙ ap (λ (o : Out (A → A)). onOut o (λ put x. onOut (rest′ x) (λ more y. ok (put more) y))) (w .is))
+            ∙ onOut-put (rest′ q) (v .put) (w .tree);
+        says = both (v .put) (w .tree) (v .words) (w .words) (v .says) (w .says);
+        written = w .written ∙ ap (λ (l : List ℕ). l ++ w .words) (v .written) ∙ append-assoc (take free s₀) (v .words) (w .words);
+        size = omega (arith, v .size, w .size, length-append (v .words) (w .words));
+      };
+    }
 
     pub closes-as :
         {Rest Full : A → List ℕ → Type 0} {r₀ r₁ r₂ : State}
@@ -121,19 +116,16 @@ module _ {A : Type 0} {read : ℕ → Out A} {Says : (A → A) → List ℕ → 
         record { by = subst (λ (x : State). FollowsBy read Full s₀ s₂ (Read at free) x) (sym (g .by)) (d .by) }
     closes-as {r₀ = Read at free} {r₁ = Read m nf} {r₂ = Refused k p} both d g =
         record { by = d .by .is ∙ ap (λ (o : Out A). onOut o (λ more q. ok (d .by .put more) q)) (g .by) }
-    closes-as {r₀ = Read at free} {r₁ = Read m nf} {r₂ = Read q mf} both d g =
-        let v = d .by in
-        let w = g .by in
-        record {
-          by = record {
-            tree = v .put (w .tree);
-            words = v .words ++ w .words;
-            is = v .is ∙ ap (λ (o : Out A). onOut o (λ more q. ok (v .put more) q)) (w .is);
-            says = both (v .put) (w .tree) (v .words) (w .words) (v .says) (w .says);
-            written = w .written ∙ ap (λ (l : List ℕ). l ++ w .words) (v .written) ∙ append-assoc (take free s₀) (v .words) (w .words);
-            size = omega (arith, v .size, w .size, length-append (v .words) (w .words));
-          };
-        }
+    closes-as {r₀ = Read at free} {r₁ = Read m nf} {r₂ = Read q mf} both d g = let v = d .by in let w = g .by in record {
+      by = record {
+        tree = v .put (w .tree);
+        words = v .words ++ w .words;
+        is = v .is ∙ ap (λ (o : Out A). onOut o (λ more q. ok (v .put more) q)) (w .is);
+        says = both (v .put) (w .tree) (v .words) (w .words) (v .says) (w .says);
+        written = w .written ∙ ap (λ (l : List ℕ). l ++ w .words) (v .written) ∙ append-assoc (take free s₀) (v .words) (w .words);
+        size = omega (arith, v .size, w .size, length-append (v .words) (w .words));
+      };
+    }
 
 pub so : {B : Type 0} (x y : B) {b : Bool} → b ≡ true → elim b as (λ _. B) [ true ↦ x | false ↦ y ] ≡ x
 so x y e = rw e refl
@@ -158,8 +150,7 @@ module _ {A : Type 0} (none : A) (starts : ℕ → Bool) (one : Reader (A → A)
       (t at : ℕ) → 0 < t → starts (kindAt src at) ≡ true
       → manyUpTo t none starts one src at ≡ onOut (one src at) (λ put m. onOut (manyUpTo (t - 1) none starts one src m) (λ more q. ok (put more) q))
   turned zero at h e = absurd (omega arith)
-  turned (suc t) at h e =
-      let q : t ≡ suc t - 1 = omega arith in
+  turned (suc t) at h e = let q : t ≡ suc t - 1 = omega arith in
       turn t at e ∙ ap (λ (u : ℕ). onOut (one src at) (λ put m. onOut (manyUpTo u none starts one src m) (λ more q. ok (put more) q))) q
 
   pub spent : (t at : ℕ) → t ≡ 0 → manyUpTo t none starts one src at ≡ ok none at

@@ -50,12 +50,11 @@ module _ {A : Type 0} {Says : (A → A) → List ℕ → Type 0} {read : Reader 
         → ((src : Source) → HoldsSymbols src n s → (at free : ℕ) → r ≡ Read at free
         → rest src at ≡ onOut (one src at) (λ put m. onOut (rest′ src m) (λ more q. ok (put more) q)))
         → SoFar Says′ read rest′ s₀ s₁ n r₀ r₁
-    so-turns rest′ next d e q =
-        record {
-          room = leaves-first (so .room) (d .0);
-          same = e ∙ so .same;
-          partly = λ src l. let l₁ = lies-still l (so .room .kept) in more-as (rest′ src) next (q src l₁) (so .partly src l) (d .1 src l₁);
-        }
+    so-turns rest′ next d e q = record {
+      room = leaves-first (so .room) (d .0);
+      same = e ∙ so .same;
+      partly = λ src l. let l₁ = lies-still l (so .room .kept) in more-as (rest′ src) next (q src l₁) (so .partly src l) (d .1 src l₁);
+    }
 
     pub so-closes :
         {Rest Full : A → List ℕ → Type 0} {k : ℕ} {s₁ : List ℕ} {r₁ : State}
@@ -77,8 +76,7 @@ module _ {A : Type 0} (none : A) (starts : ℕ → Bool) (one : Reader (A → A)
       → Appends Says One Says′ → SoFar Says read (manyUpTo t none starts one) s₀ s n r₀ r → KindsHere s n r kind → starts kind ≡ true
       → ReadingAt kind k one One s s₁ n r r₁ → length s₁ ≡ length s → 0 < t
       → SoFar Says′ read (manyUpTo (t - 1) none starts one) s₀ s₁ n r₀ r₁
-  many-turns next so k b d e h =
-      so-turns so (manyUpTo (t - 1) none starts one) next (d .0, λ src l. d .1 src l (k src l)) e
+  many-turns next so k b d e h = so-turns so (manyUpTo (t - 1) none starts one) next (d .0, λ src l. d .1 src l (k src l)) e
       (λ src l at free q. turned none starts one src t at h (sym (ap starts (k src l .here at free q)) ∙ b))
 
   module _ {Rest Full : A → List ℕ → Type 0} (end : Ends Says Rest Full) (empty : Rest none []) {t₀ m : ℕ} (all : t₀ ≡ m)
@@ -107,8 +105,7 @@ module _ {A : Type 0} (none : A) (one : Reader (A → A)) {enc : A → List ℕ}
     pub list-semicolon-ends :
         {kind₁ : ℕ} {r₁ r₂ : State} → (kind ≡ K.END → ⊥) → Reading 5 (the K.SEMICOLON) (Encodes (λ _. [])) s s n r r₁ → KindsHere s n r₁ kind₁
         → kind₁ ≡ K.END → Reading 5 (the K.END) (Encodes (λ _. [])) s s n r₁ r₂ → 0 < t → Reading 5 read (Encodes enc) s₀ s n r₀ r₂
-    list-semicolon-ends q d k₁ q₁ d₁ h =
-        so-closes so before-last
+    list-semicolon-ends q d k₁ q₁ d₁ h = so-closes so before-last
         (leaves-last (d .0) (d₁ .0), λ src l. list-semicolon-end none one src (k src l) enc en t h q (k₁ src l) q₁ (d .1 src l) (d₁ .1 src l))
 
   pub list-goes-on :
@@ -116,7 +113,6 @@ module _ {A : Type 0} (none : A) (one : Reader (A → A)) {enc : A → List ℕ}
       → Reading 5 (the K.SEMICOLON) (Encodes (λ _. [])) s s n r r₁ → KindsHere s n r₁ kind₁ → (kind₁ ≡ K.END → ⊥) → TakesRoom 5 s s₂ n r₁ r₂
       → length s₂ ≡ length s → ((src : Source) → HoldsSymbols src n s → Follows (one src) (Prepends enc) s s₂ r₁ r₂) → 0 < t
       → SoFar (Before enc) read (moreUpTo (t - 1) none one) s₀ s₂ n r₀ r₂
-  list-goes-on k q d k₁ q₁ room e g h =
-      so-turns so (moreUpTo (t - 1) none one) before-next
+  list-goes-on k q d k₁ q₁ room e g h = so-turns so (moreUpTo (t - 1) none one) before-next
       (room-left {m = 0} (left (d .0) less room) refl, λ src l. semicolon-item none one src (k src l) q (k₁ src l) q₁ (d .1 src l) (g src l)) e
       (λ src l. list-more none one src (k src l) q (k₁ src l) q₁ (d .1 src l) t h)

@@ -41,15 +41,13 @@ no-name-words = refl
 module _ (kind : ℕ) {s : List ℕ} {n : ℕ} {r : State} {x : ℕ} (kinds : KindsHere s n r x) where
   pub optional-here : {r′ : State} → x ≡ kind → Expects kind s n r r′ → Reading 0 (optional kind) (Encodes (λ _. [])) s s n r r′
   unfolding optional
-  optional-here q d =
-      picked kinds (λ src at. onOut (the kind src at) (λ _ m. ok true m))
+  optional-here q d = picked kinds (λ src at. onOut (the kind src at) (λ _ m. ok true m))
       (λ src at h. rw (eq-eqb (kindAt src at) kind (h ∙ q)) (sym (ap (λ (o : Out ℕ). onOut o (λ _ m. ok true m)) (the-is src kind at (h ∙ q)))))
       (leaves-less (d .0) refl, λ src l. mapped (λ _. true) (λ _. refl) (d .1 src l))
 
   pub optional-not : (x ≡ kind → ⊥) → Ready 0 s n r → Reading 0 (optional kind) (Encodes (λ _. [])) s s n r r
   unfolding optional
-  optional-not q p =
-      picked kinds (λ _ m. ok false m) (λ src at h. rw (ne-eqb (kindAt src at) kind (λ y. q (sym h ∙ y))))
+  optional-not q p = picked kinds (λ _ m. ok false m) (λ src at h. rw (ne-eqb (kindAt src at) kind (λ y. q (sym h ∙ y))))
       (leaves-all p, λ src l. nothing (record { same = refl }))
 
 -- BY and a constant, if BY stands here
@@ -58,14 +56,10 @@ module _ (src : Source) (x : ℕ) {s : List ℕ} {r : State} {kind : ℕ} (k : K
       {s₁ : List ℕ} {r₀ r₁ : State} → kind ≡ K.BY → Reads (the K.BY src) (λ _. []) s s r r₀
       → Reads (E.constant (within x) src) encodeConstant s s₁ r₀ r₁ → Reads (C.optionalBy (readers (within x)) src) encodeBy s s₁ r r₁
   unfolding C.optionalBy C.by encodeBy
-  by-read q a d =
-      here (C.by (readers (within x)) src) (λ at free e. ap (λ (b : Bool). cond b (C.by (readers (within x)) src at) (ok none at))
-      (eq-eqb (kindAt src at) K.BY (sym (k .here at free e) ∙ q)))
-      (bind 0 (λ _. []) a (goes-on d) (λ _ _. mapped some (λ _. refl) d))
+  by-read q a d = here (C.by (readers (within x)) src) (λ at free e. ap (λ (b : Bool). cond b (C.by (readers (within x)) src at) (ok none at))
+      (eq-eqb (kindAt src at) K.BY (sym (k .here at free e) ∙ q))) (bind 0 (λ _. []) a (goes-on d) (λ _ _. mapped some (λ _. refl) d))
 
   pub no-by : (kind ≡ K.BY → ⊥) → Reads (C.optionalBy (readers (within x)) src) encodeBy s s r r
   unfolding C.optionalBy encodeBy
-  no-by q =
-      here (λ m. ok none m) (λ at free e. ap (λ (b : Bool). cond b (C.by (readers (within x)) src at) (ok none at))
-      (ne-eqb (kindAt src at) K.BY (λ y. q (k .here at free e ∙ y))))
-      (nothing (record { same = refl }))
+  no-by q = here (λ m. ok none m) (λ at free e. ap (λ (b : Bool). cond b (C.by (readers (within x)) src at) (ok none at))
+      (ne-eqb (kindAt src at) K.BY (λ y. q (k .here at free e ∙ y)))) (nothing (record { same = refl }))

@@ -41,11 +41,8 @@ pub item-here :
     → Reads (E.constant (within 64) src) encodeConstant s₂ s₄ r₃ r₄ → SetsSize lo s₄ s₅ r₄
     → Follows (G.item sign src) (Prepends encodeItems) s s₅ r r₄
 unfolding G.item encodeItems
-item-here src sign size lo-is le a b c d f =
-    sized {Says = Inside encodeItems 0} (Prepends encodeItems) 0 size (itself encodeItems 0) le lo-is a
-    (bind size encodeName b (goes-on c then goes-on d)
-    (λ name _. bind size (λ _. []) c (goes-on d)
-    (λ _ _. bind size encodeConstant d stays
+item-here src sign size lo-is le a b c d f = sized {Says = Inside encodeItems 0} (Prepends encodeItems) 0 size (itself encodeItems 0) le lo-is a
+    (bind size encodeName b (goes-on c then goes-on d) (λ name _. bind size (λ _. []) c (goes-on d) (λ _ _. bind size encodeConstant d stays
     (λ k _. nothing (λ rest. ap (λ (v : List ℕ). item 0 (encodeName name ++ v) ++ encodeItems rest) (sym (append-nil (encodeConstant k))))))))
     f
 
@@ -65,11 +62,9 @@ module _ (src : Source) {s : List ℕ} {r : State} {kind : ℕ} (k : KindHere sr
   pub no-parameters :
       {r₁ : State} → kind ≡ K.CLOSE → Reads (the K.CLOSE src) (λ _. []) s s r r₁ → Reads (upToClose [] G.parameter src) encodeNames s s r r₁
   unfolding upToClose encodeNames
-  no-parameters q d =
-      here _ (λ at free e. let y : kindAt src at ≡ K.CLOSE = sym (k .here at free e) ∙ q in
+  no-parameters q d = here _ (λ at free e. let y : kindAt src at ≡ K.CLOSE = sym (k .here at free e) ∙ q in
       ap (λ (b : Bool). cond b (ok [] (at + 1)) (oneUpToClose [] G.parameter src at)) (eq-eqb (kindAt src at) K.CLOSE y)
-      ∙ sym (ap (λ (o : Out ℕ). onOut o (λ _ m. ok [] m)) (the-is src K.CLOSE at y)))
-      (mapped (λ _. []) (λ _. refl) d)
+      ∙ sym (ap (λ (o : Out ℕ). onOut o (λ _ m. ok [] m)) (the-is src K.CLOSE at y))) (mapped (λ _. []) (λ _. refl) d)
 
   pub some-parameters :
       {n : ℕ} {s₁ s₂ : List ℕ} {r₁ r₂ r₃ : State} → length (src .symbols) ≡ n → (kind ≡ K.CLOSE → ⊥) → Reads (aName src) encodeName s s₁ r r₁
@@ -78,8 +73,7 @@ module _ (src : Source) {s : List ℕ} {r : State} {kind : ℕ} (k : KindHere sr
   unfolding upToClose oneUpToClose G.parameter furtherItems many aFurtherName encodeNames
   some-parameters {s₁ = s₁} {s₂} {r₁} {r₂} en q a b c =
       here _ (λ at free e. ap (λ (z : Bool). cond z (ok [] (at + 1)) (oneUpToClose [] G.parameter src at))
-      (ne-eqb (kindAt src at) K.CLOSE (λ y. q (k .here at free e ∙ y))) ∙ nested (aName src at) _)
-      (bind 0 encodeName a (goes-on b then goes-on c)
+      (ne-eqb (kindAt src at) K.CLOSE (λ y. q (k .here at free e ∙ y))) ∙ nested (aName src at) _) (bind 0 encodeName a (goes-on b then goes-on c)
       (λ name _. bind 0 encodeNames (subst (λ (m : ℕ). Reads (manyUpTo m [] isComma aFurtherName src) encodeNames s₁ s₂ r₁ r₂) (sym en) b) (goes-on c)
       (λ names _. bind 0 (λ _. []) c stays
       (λ _ _. nothing (record { same = ap (λ (v : List ℕ). encodeName name ++ v) (append-nil (encodeNames names)) })))))
@@ -94,12 +88,11 @@ module _ (src : Source) {s : List ℕ} {r : State} {kind : ℕ} (k : KindHere sr
 body-words :
     (name : Name) (names : List Name) (b : Body) (z v : ℕ) → z ≡ length (encodeName name) + (length (encodeNames names) + length (encodeBody b))
     → v ≡ length (encodeNames names) → Bodies name names b (encodeBody b ++ (z ∷ v ∷ 0 ∷ bodyWord b ∷ []))
-body-words name names b z v e q =
-    record {
-      same = ap (λ (x : ℕ). closed (encodeName name ++ (encodeNames names ++ encodeBody b)) x 0 (bodyWord b)) (sym q)
-          ∙ sym (parts (encodeName name) (encodeNames names) (encodeBody b) z v 0 (bodyWord b)
-          (omega (arith, length-append (encodeName name) (encodeNames names ++ encodeBody b), length-append (encodeNames names) (encodeBody b))));
-    }
+body-words name names b z v e q = record {
+  same = ap (λ (x : ℕ). closed (encodeName name ++ (encodeNames names ++ encodeBody b)) x 0 (bodyWord b)) (sym q)
+      ∙ sym (parts (encodeName name) (encodeNames names) (encodeBody b) z v 0 (bodyWord b)
+      (omega (arith, length-append (encodeName name) (encodeNames names ++ encodeBody b), length-append (encodeNames names) (encodeBody b))));
+}
 
 module _ (src : Source) {s : List ℕ} {r : State} {kind : ℕ} (k : KindHere src r kind) (size start : ℕ) {value : ℕ} (name : Name)
     (names : List Name) (before : freeOf size r ≡ start + (length (encodeName name) + length (encodeNames names)))
@@ -108,10 +101,8 @@ module _ (src : Source) {s : List ℕ} {r : State} {kind : ℕ} (k : KindHere sr
       kind ≡ K.EQUAL → Reads (the K.EQUAL src) (λ _. []) s s r r₁ → Reads (E.expression (within 64) LOOSEST src) encode s s₂ r₁ r₂
       → Adds (recordFrom start value 0 K.EQUAL) s₂ s₃ r₂ r₃ → Follows (G.body src) (Bodies name names) s s₃ r r₃
   unfolding G.body G.value encodeBody bodyWord
-  body-value q a b d =
-      here (G.value src) (λ at free e. ap (λ (z : Bool). cond z (G.value src at) (G.routine src at))
-      (eq-eqb (kindAt src at) K.EQUAL (sym (k .here at free e) ∙ q)))
-      (bind size (λ _. []) a (goes-on b then adds-on d)
+  body-value q a b d = here (G.value src) (λ at free e. ap (λ (z : Bool). cond z (G.value src at) (G.routine src at))
+      (eq-eqb (kindAt src at) K.EQUAL (sym (k .here at free e) ∙ q))) (bind size (λ _. []) a (goes-on b then adds-on d)
       (λ _ q₁. bind size encode b (adds-on d)
       (λ e q₂. added size d (body-words name names (T.value e) (freeOf size r₂ - start) value (omega arith) sized))))
 
@@ -119,10 +110,8 @@ module _ (src : Source) {s : List ℕ} {r : State} {kind : ℕ} (k : KindHere sr
       (kind ≡ K.EQUAL → ⊥) → Reads (the K.BE src) (λ _. []) s s r r₁ → Reads (C.command (within 64) src) encodeCommand s s₂ r₁ r₂
       → Adds (recordFrom start value 0 K.BE) s₂ s₃ r₂ r₃ → Follows (G.body src) (Bodies name names) s s₃ r r₃
   unfolding G.body G.routine encodeBody bodyWord
-  body-routine q a b d =
-      here (G.routine src) (λ at free e. ap (λ (z : Bool). cond z (G.value src at) (G.routine src at))
-      (ne-eqb (kindAt src at) K.EQUAL (λ y. q (k .here at free e ∙ y))))
-      (bind size (λ _. []) a (goes-on b then adds-on d)
+  body-routine q a b d = here (G.routine src) (λ at free e. ap (λ (z : Bool). cond z (G.value src at) (G.routine src at))
+      (ne-eqb (kindAt src at) K.EQUAL (λ y. q (k .here at free e ∙ y)))) (bind size (λ _. []) a (goes-on b then adds-on d)
       (λ _ q₁. bind size encodeCommand b (adds-on d)
       (λ c q₂. added size d (body-words name names (T.routine c) (freeOf size r₂ - start) value (omega arith) sized))))
 
@@ -138,8 +127,7 @@ pub function-here :
 unfolding G.function encodeFunctions
 function-here src size lo-is le a start-is b c d value-is body on f =
     sized {Says = Inside encodeFunctions 0} (Prepends encodeFunctions) 0 size (itself encodeFunctions 0) le lo-is a
-    (bind size encodeName b (goes-on c then goes-on d then on)
-    (λ name q₁. bind size (λ _. []) c (goes-on d then on)
+    (bind size encodeName b (goes-on c then goes-on d then on) (λ name q₁. bind size (λ _. []) c (goes-on d then on)
     (λ _ q₂. bind size encodeNames d on (λ names q₃. follow size (body name names (omega arith) (omega arith)) stays
     (λ x w h _. nothing (λ rest. ap (λ (v : List ℕ). item 0 v ++ encodeFunctions rest)
     (h .same ∙ ap (λ (v : List ℕ). encodeName name ++ (encodeNames names ++ v)) (sym (append-nil w)))))))))
@@ -161,8 +149,7 @@ pub functions-read :
     → Reads (manyUpTo n [] (λ kind. eqb kind K.AND) G.andFunction src) encodeFunctions s₁ s₂ r₁ r₂
     → Reads (functionList src) encodeFunctions s s₂ r r₂
 unfolding functionList many
-functions-read src {s₁ = s₁} {s₂} {r₁} {r₂} en a b =
-    follow 0 a (goes-on b) (λ put w h _. bind 0 encodeFunctions
+functions-read src {s₁ = s₁} {s₂} {r₁} {r₂} en a b = follow 0 a (goes-on b) (λ put w h _. bind 0 encodeFunctions
     (subst (λ (m : ℕ). Reads (manyUpTo m [] (λ kind. eqb kind K.AND) G.andFunction src) encodeFunctions s₁ s₂ r₁ r₂) (sym en) b) stays
     (λ fs _. nothing (record { same = ap (λ (v : List ℕ). w ++ v) (append-nil (encodeFunctions fs)) ∙ sym (h .puts fs) })))
 
@@ -187,23 +174,20 @@ module _ (src : Source) {kind : ℕ} {s s′ : List ℕ} {r r′ : State} where
   pub declaration-globals :
       kind ≡ K.GLOBAL → Reads (itemList K.COLON src) encodeItems s s′ r r′ → Follows (declarationAfter kind src) (Declares kind) s s′ r r′
   unfolding declarationAfter globalsAfter encodeProgram
-  declaration-globals q d =
-      here (globalsAfter src) (λ at free e. rw (eq-eqb kind K.GLOBAL q) refl)
+  declaration-globals q d = here (globalsAfter src) (λ at free e. rw (eq-eqb kind K.GLOBAL q) refl)
       (bind 0 encodeItems d stays (λ xs _. nothing (record { same = λ rest. tagged (sym q) (encodeItems xs) (encodeProgram rest) })))
 
   pub declaration-manifests :
       kind ≡ K.MANIFEST → Reads (itemList K.EQUAL src) encodeItems s s′ r r′ → Follows (declarationAfter kind src) (Declares kind) s s′ r r′
   unfolding declarationAfter manifestsAfter encodeProgram
-  declaration-manifests q d =
-      here (manifestsAfter src) (λ at free e. rw q refl)
+  declaration-manifests q d = here (manifestsAfter src) (λ at free e. rw q refl)
       (bind 0 encodeItems d stays (λ xs _. nothing (record { same = λ rest. tagged (sym q) (encodeItems xs) (encodeProgram rest) })))
 
   pub declaration-functions :
       isDeclaration kind ≡ true → (kind ≡ K.GLOBAL → ⊥) → (kind ≡ K.MANIFEST → ⊥) → Reads (functionList src) encodeFunctions s s′ r r′
       → Follows (declarationAfter kind src) (Declares kind) s s′ r r′
   unfolding declarationAfter functionsAfter encodeProgram
-  declaration-functions h a b d =
-      here (functionsAfter src) (λ at free e. rw (ne-eqb kind K.GLOBAL a, ne-eqb kind K.MANIFEST b) refl)
+  declaration-functions h a b d = here (functionsAfter src) (λ at free e. rw (ne-eqb kind K.GLOBAL a, ne-eqb kind K.MANIFEST b) refl)
       (bind 0 encodeFunctions d stays
       (λ fs _. nothing (record { same = λ rest. tagged (sym (other-declaration kind h a b)) (encodeFunctions fs) (encodeProgram rest) })))
 
@@ -224,14 +208,12 @@ module _ (src : Source) (at : ℕ) where
 
   manifests-is : G.manifests src at ≡ onOut (the K.MANIFEST src at) (λ _ m. manifestsAfter src m)
   unfolding G.manifests manifestsAfter itemList
-  manifests-is =
-      under (the K.MANIFEST src at) _ _
+  manifests-is = under (the K.MANIFEST src at) _ _
       (λ _ m. sym (after (the K.BEGIN src m) (λ _ q. items [] (G.item K.EQUAL) src q) (λ xs w. ok (T.manifests xs) w)))
 
   functions-is : G.functions src at ≡ onOut (the K.LET src at) (λ _ m. functionsAfter src m)
   unfolding G.functions functionsAfter functionList
-  functions-is =
-      under (the K.LET src at) _ _ (λ _ m. sym (nests (G.function src m) (λ q. many [] (λ kind. eqb kind K.AND) G.andFunction src q)
+  functions-is = under (the K.LET src at) _ _ (λ _ m. sym (nests (G.function src m) (λ q. many [] (λ kind. eqb kind K.AND) G.andFunction src q)
       (λ fs w. ok (T.functions fs) w)))
 
   declarationBy :
@@ -250,17 +232,13 @@ pub declared-read :
     → Follows (declarationAfter kind src) (Declares kind) s₁ s₂ r₁ r₂ → SetsSize lo s₂ s₃ r₂ → Reads (optional K.SEMICOLON src) (λ _. []) s₃ s₃ r₂ r₃
     → Follows (G.declared src) (Prepends encodeProgram) s s₃ r r₃
 unfolding G.declared
-declared-read src size {kind} k h lo-is le a b c d f =
-    follow size {First = λ x w. Prepends encodeProgram (λ rest. x ∷ rest) w}
+declared-read src size {kind} k h lo-is le a b c d f = follow size {First = λ x w. Prepends encodeProgram (λ rest. x ∷ rest) w}
     (here _ (λ at free e. declarationBy src at kind (k .here at free e) h (eqb kind K.GLOBAL) (eqb kind K.MANIFEST) refl refl)
     (bind size (λ _. []) a (adds-on b then goes-on c) (λ _ q. sized {Says = Declares kind} (λ x w. Prepends encodeProgram (λ rest. x ∷ rest) w) kind
-    size (λ x w g. record { puts = g .same; some = omega arith }) le (omega arith) b c d)))
-    (goes-on f)
-    (λ x w g _. bind size (λ _. []) f stays
+    size (λ x w g. record { puts = g .same; some = omega arith }) le (omega arith) b c d))) (goes-on f) (λ x w g _. bind size (λ _. []) f stays
     (λ _ _. nothing (record {
       puts = λ rest. g .puts rest ∙ ap (λ (v : List ℕ). v ++ encodeProgram rest) (sym (append-nil w));
-      some = omega
-          (arith, g .some, length-append w []);
+      some = omega (arith, g .some, length-append w []);
     })))
 
 pub no-program-words : encodeProgram [] ≡ []
@@ -276,14 +254,12 @@ module _ (src : Source) {n : ℕ} (en : length (src .symbols) ≡ n) {s s₁ : L
 
   pub program-read : kind ≡ K.NOTHING → Reads (G.program src) encodeProgram s s₁ r r₁
   unfolding G.program G.whole
-  program-read q =
-      bind 0 encodeProgram whole-read stays
+  program-read q = bind 0 encodeProgram whole-read stays
       (λ p _. here (λ m. ok p m) (λ at free e. ap (λ (b : Bool). cond b (ok p at) (unexpected src at))
       (eq-eqb (kindAt src at) K.NOTHING (sym (k .here at free e) ∙ q))) (nothing (record { same = append-nil (encodeProgram p) })))
 
   pub program-refused : {r₂ : State} → (kind ≡ K.NOTHING → ⊥) → Refuses 6 r₁ r₂ → Reads (G.program src) encodeProgram s s₁ r r₂
   unfolding G.program G.whole unexpected
-  program-refused q g =
-      bind 0 encodeProgram whole-read (refuses-on g)
+  program-refused q g = bind 0 encodeProgram whole-read (refuses-on g)
       (λ p _. stopped (λ at free e. ap (λ (b : Bool). cond b (ok p at) (no 6 at)) (ne-eqb (kindAt src at) K.NOTHING (λ y. q (k .here at free e ∙ y))))
       g)

@@ -33,8 +33,7 @@ deeper (suc x) h = let e : x ≡ suc x - 1 = omega arith in ap (λ (y : ℕ). in
 pub any-the :
     {C : Type 0} {src : Source} {r : State} {kind : ℕ} → KindHere src r kind → (F : ℕ → ℕ → ℕ → Out C) (at free : ℕ) → r ≡ Read at free
     → F (kindAt src at) (placeAt src at) (at + 1) ≡ onOut (the kind src at) (F kind)
-any-the {C} {src} {r} {kind} k F at free e =
-    let q = k .here at free e in
+any-the {C} {src} {r} {kind} k F at free e = let q = k .here at free e in
     ap (λ (y : ℕ). F y (placeAt src at) (at + 1)) (sym q) ∙ sym (ap (λ (o : Out ℕ). onOut o (F kind)) (the-is src kind at (sym q)))
 
 module _ {src : Source} {n : ℕ} {s : List ℕ} (l : HoldsSymbols src n s) {r : State} (size : ℕ) (x : ℕ) {lo p : ℕ} (lo-is : lo ≡ freeOf size r)
@@ -44,8 +43,7 @@ module _ {src : Source} {n : ℕ} {s : List ℕ} (l : HoldsSymbols src n s) {r :
       → Reads (the K.CLOSE src) (λ _. []) s₂ s₂ r₂ r₃ → Adds (recordFrom lo 0 p K.OPEN) s₂ s₃ r₃ r₄
       → Reads (E.bracketed (within x) src) encode s s₃ r r₄
   unfolding E.bracketed opening encode
-  bracketed-read a b c d =
-      closes (Encodes encode) size lo-is
+  bracketed-read a b c d = closes (Encodes encode) size lo-is
       (here (E.bracketed (inside (readers (within (x - 1)))) src) (λ at free e. ap (λ (i : Inside). E.bracketed i src at) (deeper x deep))
       (here _ (placed l h K.OPEN (omega arith)
       (λ place m. onOut (E.expression (within (x - 1)) LOOSEST src m) (λ e q. onOut (the K.CLOSE src q) (λ _ w. ok (T.bracketed place e) w))))
@@ -56,8 +54,7 @@ module _ {src : Source} {n : ℕ} {s : List ℕ} (l : HoldsSymbols src n s) {r :
       Reads (the K.VALOF src) (λ _. []) s s r r₁ → Reads (readers (within (x - 1)) .command src) encodeCommand s s₂ r₁ r₂
       → Adds (recordFrom lo 0 p K.VALOF) s₂ s₃ r₂ r₄ → Reads (E.valof (within x) src) encode s s₃ r r₄
   unfolding E.valof opening encode
-  valof-read a b d =
-      closes (Encodes encode) size lo-is
+  valof-read a b d = closes (Encodes encode) size lo-is
       (here (E.valof (inside (readers (within (x - 1)))) src) (λ at free e. ap (λ (i : Inside). E.valof i src at) (deeper x deep))
       (here _ (placed l h K.VALOF (omega arith) (λ place m. onOut (readers (within (x - 1)) .command src m) (λ c w. ok (T.valof place c) w)))
       (bind size (λ _. []) a (goes-on b) (λ _ _. ends (T.valof p) b (λ c. record { same = refl }))))) d
@@ -67,8 +64,7 @@ module _ {src : Source} {n : ℕ} {s : List ℕ} (l : HoldsSymbols src n s) {r :
       → Reads (E.expression (within (x - 1)) reach src) encode s s₂ r₁ r₂ → Adds (recordFrom lo kind p MONADIC) s₂ s₃ r₂ r₄
       → Reads (E.monadic (within x) src) encode s s₃ r r₄
   unfolding E.monadic opening any encode
-  monadic-read {kind} {reach} k pos e a b d =
-      closes (Encodes encode) size lo-is
+  monadic-read {kind} {reach} k pos e a b d = closes (Encodes encode) size lo-is
       (here (E.monadic (inside (readers (within (x - 1)))) src) (λ at free e. ap (λ (i : Inside). E.monadic i src at) (deeper x deep))
       (here _ (any-the k (λ y place m. onOut (E.expression (within (x - 1)) (reachOf y) src m) (λ e q. ok (T.monadic place y e) q)))
       (here _ (placed l h kind pos (λ place m. onOut (E.expression (within (x - 1)) (reachOf kind) src m) (λ e q. ok (T.monadic place kind e) q)))
@@ -81,8 +77,7 @@ module _ {A B : Type 0} (F : B → A → A) (tag size : ℕ) {body : ℕ → Out
   pub item-alone :
       {r r₁ r₂ : State} → lo ≡ freeOf size r → freeOf size r ≤ length s → Adds (λ _. 0 ∷ tag ∷ []) s s₁ r r₁ → Reads body enc s₁ s₂ r₁ r₂
       → SetsSize lo s₂ s₃ r₂ → Follows (λ m. onOut (body m) (λ e w. ok (F e) w)) Says s s₃ r r₂
-  item-alone lo-is le a d b =
-      bind size (λ e. item tag (enc e))
+  item-alone lo-is le a d b = bind size (λ e. item tag (enc e))
       (sized (Encodes (λ e. item tag (enc e))) tag size (λ e w h. record { same = ap (λ (v : List ℕ). item tag v) (h .same) }) le lo-is a d b) stays
       (λ e q. nothing (subst (λ (v : List ℕ). Says (F e) v) (sym (append-nil (item tag (enc e)))) (law e)))
 
@@ -98,8 +93,7 @@ module _ {A B : Type 0} (F : B → A → A) (tag size : ℕ) {first : ℕ → Ou
   pub behind-read :
       {r r₀ r₁ r₂ : State} → lo ≡ freeOf size r → Reads first (λ _. []) s s r r₀ → Reads body enc s s₁ r₀ r₁ → Adds (behindFrom lo tag) s₁ s₂ r₁ r₂
       → Follows (λ m. onOut (first m) (λ _ q. onOut (body q) (λ e w. ok (F e) w))) Says s s₂ r r₂
-  behind-read {r} {r₀} {r₁} lo-is c d b =
-      bind size (λ _. []) c (goes-on d then adds-on b) (λ _ q₁. bind size enc d (adds-on b) (λ e q₂.
+  behind-read {r} {r₀} {r₁} lo-is c d b = bind size (λ _. []) c (goes-on d then adds-on b) (λ _ q₁. bind size enc d (adds-on b) (λ e q₂.
       let z : length (enc e) ≡ freeOf size r₁ - lo = omega arith in
       added size b (subst (λ (y : ℕ). Says (F e) (enc e ++ (y ∷ tag ∷ []))) z (law e))))
 
@@ -154,11 +148,9 @@ module _ (src : Source) (x : ℕ) {s : List ℕ} {r : State} {kind : ℕ} (k : K
       {r₁ : State} → kind ≡ K.CLOSE → Reads (the K.CLOSE src) (λ _. []) s s r r₁
       → Reads (upToClose T.noExpressions (anArgument x) src) encodeExpressions s s r r₁
   unfolding upToClose encodeExpressions
-  no-arguments q d =
-      here _ (λ at free e. let y : kindAt src at ≡ K.CLOSE = sym (k .here at free e) ∙ q in
+  no-arguments q d = here _ (λ at free e. let y : kindAt src at ≡ K.CLOSE = sym (k .here at free e) ∙ q in
       ap (λ (b : Bool). cond b (ok T.noExpressions (at + 1)) (oneUpToClose T.noExpressions (anArgument x) src at)) (eq-eqb (kindAt src at) K.CLOSE y)
-      ∙ sym (ap (λ (o : Out ℕ). onOut o (λ _ m. ok T.noExpressions m)) (the-is src K.CLOSE at y)))
-      (mapped (λ _. T.noExpressions) (λ _. refl) d)
+      ∙ sym (ap (λ (o : Out ℕ). onOut o (λ _ m. ok T.noExpressions m)) (the-is src K.CLOSE at y))) (mapped (λ _. T.noExpressions) (λ _. refl) d)
 
   pub some-arguments :
       {n : ℕ} {s₁ s₂ : List ℕ} {r₁ r₂ r₃ : State} (size : ℕ) → length (src .symbols) ≡ n → (kind ≡ K.CLOSE → ⊥)
@@ -167,8 +159,7 @@ module _ (src : Source) (x : ℕ) {s : List ℕ} {r : State} {kind : ℕ} (k : K
   unfolding upToClose oneUpToClose furtherItems many aFurther
   some-arguments {n} {s₁} {s₂} {r₁} {r₂} {r₃} size en q a b c =
       here _ (λ at free e. ap (λ (z : Bool). cond z (ok T.noExpressions (at + 1)) (oneUpToClose T.noExpressions (anArgument x) src at))
-      (ne-eqb (kindAt src at) K.CLOSE (λ y. q (k .here at free e ∙ y))))
-      (follow size a (goes-on b then goes-on c)
+      (ne-eqb (kindAt src at) K.CLOSE (λ y. q (k .here at free e ∙ y)))) (follow size a (goes-on b then goes-on c)
       (λ put w h q₁. bind size encodeExpressions
       (subst (λ (m : ℕ). Reads (manyUpTo m T.noExpressions isComma (aFurther x) src) encodeExpressions s₁ s₂ r₁ r₂) (sym en) b) (goes-on c)
       (λ rest q₂. bind size (λ _. []) c stays
@@ -221,17 +212,14 @@ module _ {src : Source} {r : State} {kind : ℕ} (k : KindHere src r kind) where
         → onOut (many none begins one src at) make ≡ onOut (one src at)
         (λ put q. onOut (manyUpTo (n - 1) none begins one src q) (λ more w. make (put more) w))
     unfolding many
-    many-first {n} l z h =
-        let b : begins (kindAt src at) ≡ true = sym (ap begins (k .here at free e)) ∙ h in
+    many-first {n} l z h = let b : begins (kindAt src at) ≡ true = sym (ap begins (k .here at free e)) ∙ h in
         let i : at < n = among l at (positive begins (kindAt src at) z b) in
         ap (λ (o : Out A). onOut o make) (ap (λ (m : ℕ). manyUpTo m none begins one src at) (l .count)
-        ∙ turned none begins one src n at (omega arith) b)
-        ∙ nests (one src at) (λ q. manyUpTo (n - 1) none begins one src q) make
+        ∙ turned none begins one src n at (omega arith) b) ∙ nests (one src at) (λ q. manyUpTo (n - 1) none begins one src q) make
 
 -- what stands before a closing record, part by part
 pub parts : (a b c : List ℕ) (z v p k : ℕ) → z ≡ length (a ++ (b ++ c)) → a ++ (b ++ (c ++ (z ∷ v ∷ p ∷ k ∷ []))) ≡ closed (a ++ (b ++ c)) v p k
-parts a b c z v p k e =
-    ap (λ (w : List ℕ). a ++ w) (sym (append-assoc b c (z ∷ v ∷ p ∷ k ∷ []))) ∙ sym (append-assoc a (b ++ c) (z ∷ v ∷ p ∷ k ∷ []))
+parts a b c z v p k e = ap (λ (w : List ℕ). a ++ w) (sym (append-assoc b c (z ∷ v ∷ p ∷ k ∷ []))) ∙ sym (append-assoc a (b ++ c) (z ∷ v ∷ p ∷ k ∷ []))
     ∙ ap (λ (y : ℕ). (a ++ (b ++ c)) ++ (y ∷ v ∷ p ∷ k ∷ [])) e
 
 pub encode-dyadic :

@@ -30,28 +30,26 @@ module _ {s s′ : List ℕ} {n : ℕ} {r r′ : State} where
   taken f = record { placed = f .placed; above = f .above; moves = omega (arith, f .more); lives = f .lives; dead = f .dead; kept = f .kept }
 
   leaving : {a b m : ℕ} → Moves a b s s′ n r r′ → m + b ≤ a → LeavesRoom m s s′ n r r′
-  leaving {a} {b} {m} f h =
-      record {
-        placed = f .placed;
-        above = f .above;
-        leaves = by-lives (λ _ y. reach n r′ + y * a ≤ reach n r + y * b → reach n r′ + y * m ≤ reach n r) (omega arith) (omega arith) (omega arith) r
-            r′ (f .lives) (f .moves);
-        lives = f .lives;
-        dead = f .dead;
-        kept = f .kept;
-      }
+  leaving {a} {b} {m} f h = record {
+    placed = f .placed;
+    above = f .above;
+    leaves = by-lives (λ _ y. reach n r′ + y * a ≤ reach n r + y * b → reach n r′ + y * m ≤ reach n r) (omega arith) (omega arith) (omega arith) r
+        r′ (f .lives) (f .moves);
+    lives = f .lives;
+    dead = f .dead;
+    kept = f .kept;
+  }
 
   taking : {a b m : ℕ} → Moves a b s s′ n r r′ → b ≤ a + m → TakesRoom m s s′ n r r′
-  taking {a} {b} {m} f h =
-      record {
-        placed = f .placed;
-        above = f .above;
-        more = by-lives (λ _ y. reach n r′ + y * a ≤ reach n r + y * b → reach n r′ ≤ reach n r + y * m) (omega arith) (omega arith) (omega arith) r
-            r′ (f .lives) (f .moves);
-        lives = f .lives;
-        dead = f .dead;
-        kept = f .kept;
-      }
+  taking {a} {b} {m} f h = record {
+    placed = f .placed;
+    above = f .above;
+    more = by-lives (λ _ y. reach n r′ + y * a ≤ reach n r + y * b → reach n r′ ≤ reach n r + y * m) (omega arith) (omega arith) (omega arith) r
+        r′ (f .lives) (f .moves);
+    lives = f .lives;
+    dead = f .dead;
+    kept = f .kept;
+  }
 
   pub room-left : {m a b : ℕ} → Moves a b s s′ n r r′ → leb (m + b) a ≡ true → LeavesRoom m s s′ n r r′
   room-left {m} {a} {b} f h = leaving f (omega (arith, leb-true (m + b) a h))
@@ -71,43 +69,39 @@ module _ {s s′ : List ℕ} {n : ℕ} {r r′ : State} where
 
   -- what the next call may ask
   pub ready-leaves : {m k : ℕ} → LeavesRoom k s s′ n r r′ → length s′ ≡ length s → leb m 64 ≡ true → Ready (m - k) s n r → Ready m s′ n r′
-  ready-leaves {m} {k} f e q h =
-      record {
-        placed = f .placed;
-        above = f .above;
-        room = by-lives (λ _ y. reach n r′ + y * k ≤ reach n r → reach n r′ ≤ y * 2 ^ 32 → reach n r′ + m ≤ length s′)
-            (omega (arith, h .wide, leb-true m 64 q)) (omega (arith, h .wide, leb-true m 64 q)) (omega (arith, h .room)) r r′ (f .lives) (f .leaves)
-            (f .dead);
-        wide = omega (arith, h .wide);
-        small = omega (arith, h .small);
-      }
+  ready-leaves {m} {k} f e q h = record {
+    placed = f .placed;
+    above = f .above;
+    room = by-lives (λ _ y. reach n r′ + y * k ≤ reach n r → reach n r′ ≤ y * 2 ^ 32 → reach n r′ + m ≤ length s′)
+        (omega (arith, h .wide, leb-true m 64 q)) (omega (arith, h .wide, leb-true m 64 q)) (omega (arith, h .room)) r r′ (f .lives) (f .leaves)
+        (f .dead);
+    wide = omega (arith, h .wide);
+    small = omega (arith, h .small);
+  }
 
   pub ready-takes : {m k : ℕ} → TakesRoom k s s′ n r r′ → length s′ ≡ length s → Ready (m + k) s n r → Ready m s′ n r′
-  ready-takes {m} {k} f e h =
-      record {
-        placed = f .placed;
-        above = f .above;
-        room = by-lives (λ _ y. reach n r′ ≤ reach n r + y * k → reach n r′ ≤ y * 2 ^ 32 → reach n r′ + m ≤ length s′)
-            (omega (arith, h .room)) (omega (arith, h .room)) (omega (arith, h .room)) r r′ (f .lives) (f .more) (f .dead);
-        wide = omega (arith, h .wide);
-        small = omega (arith, h .small);
-      }
+  ready-takes {m} {k} f e h = record {
+    placed = f .placed;
+    above = f .above;
+    room = by-lives (λ _ y. reach n r′ ≤ reach n r + y * k → reach n r′ ≤ y * 2 ^ 32 → reach n r′ + m ≤ length s′)
+        (omega (arith, h .room)) (omega (arith, h .room)) (omega (arith, h .room)) r r′ (f .lives) (f .more) (f .dead);
+    wide = omega (arith, h .wide);
+    small = omega (arith, h .small);
+  }
 
 module _ {s s′ s″ : List ℕ} {n : ℕ} {r r′ r″ : State} where
   infixr 5 _and-then_
   _and-then_ : {a b c d : ℕ} → Moves a b s s′ n r r′ → Moves c d s′ s″ n r′ r″ → Moves (a + c) (b + d) s s″ n r r″
-  _and-then_ {a} {b} {c} {d} f g =
-      record {
-        placed = g .placed;
-        above = g .above;
-        moves =
-            by-lives (λ x y. reach n r′ + x * a ≤ reach n r + x * b → reach n r″ + y * c ≤ reach n r′ + y * d → reach n r″ ≤ y * 2 ^ 32
-            → reach n r″ + y * (a + c) ≤ reach n r + y * (b + d))
-            (omega arith) (omega arith) (omega arith) r′ r″ (g .lives) (f .moves) (g .moves) (g .dead);
-        lives = omega (arith, f .lives, g .lives);
-        dead = g .dead;
-        kept = g .kept ∙ f .kept;
-      }
+  _and-then_ {a} {b} {c} {d} f g = record {
+    placed = g .placed;
+    above = g .above;
+    moves = by-lives (λ x y. reach n r′ + x * a ≤ reach n r + x * b → reach n r″ + y * c ≤ reach n r′ + y * d → reach n r″ ≤ y * 2 ^ 32
+        → reach n r″ + y * (a + c) ≤ reach n r + y * (b + d))
+        (omega arith) (omega arith) (omega arith) r′ r″ (g .lives) (f .moves) (g .moves) (g .dead);
+    lives = omega (arith, f .lives, g .lives);
+    dead = g .dead;
+    kept = g .kept ∙ f .kept;
+  }
 
   -- one call after another, and what they leave or take together
   infixl 6 _plus_
@@ -140,16 +134,13 @@ module _ {s : List ℕ} {n : ℕ} {r r′ : State} {m : ℕ} {X Y : Type 0} wher
 
   module _ {s′ : List ℕ} {j k : ℕ} (q : leb m j ≡ true) where
     pub past-part : (Y × Ready j s n r) × (LeavesRoom k s s′ n r r′ × X) → length s′ ≡ length s → Ready m s′ n r′
-    past-part e l =
-        let f = e .1 .0 in
-        let h = e .0 .1 in
-        record {
-          placed = f .placed;
-          above = f .above;
-          room = omega (arith, f .leaves, h .room, leb-true m j q);
-          wide = omega (arith, h .wide);
-          small = omega (arith, h .small);
-        }
+    past-part e l = let f = e .1 .0 in let h = e .0 .1 in record {
+      placed = f .placed;
+      above = f .above;
+      room = omega (arith, f .leaves, h .room, leb-true m j q);
+      wide = omega (arith, h .wide);
+      small = omega (arith, h .small);
+    }
 
     pub past-expression : {Z : Type 0} → (Y × (Ready j s n r × Z)) × (LeavesRoom k s s′ n r r′ × X) → length s′ ≡ length s → Ready m s′ n r′
     past-expression e = past-part ((e .0 .0, e .0 .1 .0), e .1)

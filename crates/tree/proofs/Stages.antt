@@ -60,8 +60,7 @@ pub stages :
     (text : List ℕ) (ss : List Symbol) (room : ℕ) → symbolsOf text ≡ good ss → 8 * length text + 64 ≤ room → room < 2 ^ 32
     → treeRead (outcome room (good ss) .scratch) (length ss) (length text) ≡ asAnswer (length ss) (parsed text)
 unfolding treeRead sourceIn parsed readSymbols
-stages text ss room e h l =
-    let rest : List ℕ = replicate (room - length (entries ss)) 0 in
+stages text ss room e h l = let rest : List ℕ = replicate (room - length (entries ss)) 0 in
     let size : length (entries ss ++ rest) ≡ room = omega
     (arith, length-append (entries ss) rest, length-replicate {A = ℕ} (room - length (entries ss)) 0, entries-size ss, few-good text ss e) in
     rw (size, enough text ss room e h l, decoded-entries ss rest, e) (same-answer (record { symbols = ss; size = length text }) (length ss)

@@ -49,17 +49,14 @@ module _ {A C : Type 0} {read : ℕ → Out A} {next : A → ℕ → Out C} {Say
       → Follows {A = C} (λ m. onOut (read m) next) Says s₀ s₂ r₀ r₂
   unfolding freeOf
   part {r₀ = Refused k p} {r₁} {r₂} d g f = record { by = subst (λ (x : State). PassesBy x r₂) (d .by) (g .by) }
-  part {r₀ = Read at free} {r₁ = Refused k p} {r₂} d g f =
-      record {
-        by = subst (λ (x : State). FollowsBy {A = C} (λ m. onOut (read m) next) Says s₀ s₂ (Read at free) x) (sym (g .by))
-            (ap (λ (o : Out A). onOut o next) (d .by));
-      }
-  part {r₀ = Read at free} {r₁ = Read m nf} {r₂ = Refused k p} d g f =
-      let e = d .by in
+  part {r₀ = Read at free} {r₁ = Refused k p} {r₂} d g f = record {
+    by = subst (λ (x : State). FollowsBy {A = C} (λ m. onOut (read m) next) Says s₀ s₂ (Read at free) x) (sym (g .by))
+        (ap (λ (o : Out A). onOut o next) (d .by));
+  }
+  part {r₀ = Read at free} {r₁ = Read m nf} {r₂ = Refused k p} d g f = let e = d .by in
       let w = f (e .tree) (e .words) (e .says) (record { next = m; free = nf; before = take free s₀; reads = refl; stands = e .written }) (e .size) in
       record { by = ap (λ (o : Out A). onOut o next) (e .is) ∙ w .by }
-  part {r₀ = Read at free} {r₁ = Read m nf} {r₂ = Read q mf} d g f =
-      let e = d .by in
+  part {r₀ = Read at free} {r₁ = Read m nf} {r₂ = Read q mf} d g f = let e = d .by in
       let v : Last s₁ (Read m nf) (e .words) = record { next = m; free = nf; before = take free s₀; reads = refl; stands = e .written } in
       let w = f (e .tree) (e .words) (e .says) v (e .size) .by in
       record {
@@ -84,8 +81,7 @@ module _ {A C : Type 0} {read : ℕ → Out A} {next : A → ℕ → Out C} {Say
       {r₀ r₁ r₂ : State} (enc : A → List ℕ) → Reads read enc s₀ s₁ r₀ r₁ → Passes r₁ r₂
       → ((a : A) → Last s₁ r₁ (enc a) → freeOf n r₁ ≡ freeOf n r₀ + length (enc a) → Follows (next a) (λ c w. Says c (enc a ++ w)) s₁ s₂ r₁ r₂)
       → Follows {A = C} (λ m. onOut (read m) next) Says s₀ s₂ r₀ r₂
-  look {r₀} {r₁} {r₂} enc d g f =
-      part d g (λ a w h v e. subst (λ (x : List ℕ). Follows (next a) (λ c u. Says c (x ++ u)) s₁ s₂ r₁ r₂) (sym (h .same))
+  look {r₀} {r₁} {r₂} enc d g f = part d g (λ a w h v e. subst (λ (x : List ℕ). Follows (next a) (λ c u. Says c (x ++ u)) s₁ s₂ r₁ r₂) (sym (h .same))
       (f a (subst (Last s₁ r₁) (h .same) v) (e ∙ ap (λ (x : List ℕ). freeOf n r₀ + length x) (h .same))))
 
   pub bind :
@@ -101,8 +97,7 @@ module _ {A : Type 0} {read : ℕ → Out A} {s s′ : List ℕ} where
       → Follows read′ Says s s′ r r′ → Follows read Says s s′ r r′
   here read′ {r = Refused k p} e d = record { by = d .by }
   here read′ {r = Read at free} {r′ = Refused k p} e d = record { by = e at free refl ∙ d .by }
-  here read′ {r = Read at free} {r′ = Read m nf} e d =
-      let w = d .by in
+  here read′ {r = Read at free} {r′ = Read m nf} e d = let w = d .by in
       record { by = record { tree = w .tree; words = w .words; is = e at free refl ∙ w .is; says = w .says; written = w .written; size = w .size } }
 
   -- the same tree, and what its words say seen otherwise
@@ -111,8 +106,7 @@ module _ {A : Type 0} {read : ℕ → Out A} {s s′ : List ℕ} where
       → Follows read Says s s′ r r′ → Follows read Says′ s s′ r r′
   again Says′ {r = Refused k p} h d = record { by = d .by }
   again Says′ {r = Read at free} {r′ = Refused k p} h d = record { by = d .by }
-  again Says′ {r = Read at free} {r′ = Read m nf} h d =
-      let w = d .by in
+  again Says′ {r = Read at free} {r′ = Read m nf} h d = let w = d .by in
       record {
         by = record { tree = w .tree; words = w .words; is = w .is; says = h (w .tree) (w .words) (w .says); written = w .written; size = w .size };
       }
@@ -131,11 +125,10 @@ pub added :
     → Says a (words (freeOf size r)) → Follows (λ m. ok a m) Says s s′ r r′
 unfolding freeOf
 added size {r = Refused k p} d h = record { by = d .by }
-added {a = a} {words} {Says} {s} {s′} size {r = Read at free} d h =
-    record {
-      by = subst (λ (x : State). FollowsBy (λ m. ok a m) Says s s′ (Read at free) x) (sym (d .by .0))
-          (record { tree = a; words = words free; is = refl; says = h; written = d .by .1; size = refl });
-    }
+added {a = a} {words} {Says} {s} {s′} size {r = Read at free} d h = record {
+  by = subst (λ (x : State). FollowsBy (λ m. ok a m) Says s s′ (Read at free) x) (sym (d .by .0))
+      (record { tree = a; words = words free; is = refl; says = h; written = d .by .1; size = refl });
+}
 
 pub onOut-id : {A : Type 0} (o : Out A) → o ≡ onOut o (λ more m. ok more m)
 onOut-id (ok a m) = refl

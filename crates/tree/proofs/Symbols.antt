@@ -44,13 +44,12 @@ kept-at : (n : ℕ) (s s′ : List ℕ) → take (n * 3) s′ ≡ take (n * 3) s
 kept-at n s s′ e i h = sym (getD-take (n * 3) s′ i 0 h) ∙ ap (λ (x : List ℕ). getD x i 0) e ∙ getD-take (n * 3) s i 0 h
 
 pub lies-still : {src : Source} {n : ℕ} {s s′ : List ℕ} → HoldsSymbols src n s → take (n * 3) s′ ≡ take (n * 3) s → HoldsSymbols src n s′
-lies-still {src} {n} {s} {s′} l e =
-    record {
-      count = l .count;
-      kinds = λ i h. kept-at n s s′ e (i * 3) (omega arith) ∙ l .kinds i h;
-      values = λ i h. kept-at n s s′ e (i * 3 + 1) (omega arith) ∙ l .values i h;
-      places = λ i h. kept-at n s s′ e (i * 3 + 2) (omega arith) ∙ l .places i h;
-    }
+lies-still {src} {n} {s} {s′} l e = record {
+  count = l .count;
+  kinds = λ i h. kept-at n s s′ e (i * 3) (omega arith) ∙ l .kinds i h;
+  values = λ i h. kept-at n s s′ e (i * 3 + 1) (omega arith) ∙ l .values i h;
+  places = λ i h. kept-at n s s′ e (i * 3 + 2) (omega arith) ∙ l .places i h;
+}
 
 -- a symbol of a kind
 pub the-is : (src : Source) (kind at : ℕ) → kindAt src at ≡ kind → the kind src at ≡ ok (placeAt src at) (at + 1)
@@ -63,17 +62,16 @@ the-not src kind at e = ap (λ (b : Bool). cond b (ok (placeAt src at) (at + 1))
 
 module _ {src : Source} {n : ℕ} {s : List ℕ} (l : HoldsSymbols src n s) {r : State} {at free kind : ℕ} (e : r ≡ Read at free) where
   pub expect-ok : at < n → getD s (at * 3) 0 ≡ kind → Reads (the kind src) (λ _. []) s s r (Read (at + 1) free)
-  expect-ok h q =
-      record {
-        by = rw e (record {
-          tree = placeAt src at;
-          words = [];
-          is = the-is src kind at (sym (l .kinds at h) ∙ q);
-          says = record { same = refl };
-          written = sym (append-nil (take free s));
-          size = omega arith;
-        });
-      }
+  expect-ok h q = record {
+    by = rw e (record {
+      tree = placeAt src at;
+      words = [];
+      is = the-is src kind at (sym (l .kinds at h) ∙ q);
+      says = record { same = refl };
+      written = sym (append-nil (take free s));
+      size = omega arith;
+    });
+  }
 
   pub expect-other : at < n → (getD s (at * 3) 0 ≡ kind → ⊥) → Reads (the kind src) (λ _. []) s s r (Refused 6 at)
   expect-other h q = record { by = rw e (the-not src kind at (λ x. q (l .kinds at h ∙ x))) }
@@ -89,8 +87,7 @@ expect-refused src kind e = record { by = rw e refl }
 module _ {src : Source} {n : ℕ} {s : List ℕ} (l : HoldsSymbols src n s) {r : State} {p : ℕ} (h : Here (placeAt src) n r p) (kind : ℕ)
     (pos : 0 < kind) where
   pub placed : {C : Type 0} (F : ℕ → ℕ → Out C) (at free : ℕ) → r ≡ Read at free → onOut (the kind src at) F ≡ onOut (the kind src at) (λ _ m. F p m)
-  placed F at free e =
-      by-cases (eqb (kindAt src at) kind) (λ q. let k = eqb-true (kindAt src at) kind q in
+  placed F at free e = by-cases (eqb (kindAt src at) kind) (λ q. let k = eqb-true (kindAt src at) kind q in
       let y = h .here at free e (inside l at (omega arith)) in
       rw (the-is src kind at k) (ap (λ (x : ℕ). F x (at + 1)) (sym y)))
       (λ q. rw (the-not src kind at (λ x. let y = eq-eqb (kindAt src at) kind x in contradiction cc)) refl)

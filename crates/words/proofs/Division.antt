@@ -49,8 +49,7 @@ remZ-sign (negsuc a) q = minus-sign (suc a % natAbs q)
 value-of-word : (z : ℤ) → mag z < 32768 → value (wordOf z) ≡ z
 unfolding wordOf
 value-of-word (pos n) h = let e : n % 65536 ≡ n = omega arith in rw e (value-low n h)
-value-of-word (negsuc n) h =
-    let e : 65535 - n % 65536 ≡ 65535 - n = omega arith in
+value-of-word (negsuc n) h = let e : 65535 - n % 65536 ≡ 65535 - n = omega arith in
     let f : 65535 - (65535 - n) ≡ n = omega arith in
     rw e (value-high (65535 - n) (omega arith) ∙ ap negsuc f)
 
@@ -84,8 +83,7 @@ pub record Divides (x y : ℕ) : Type 0 where
 
 pub divides : (x y : ℕ) → x < 65536 → y < 65536 → (y ≡ 0 → ⊥) → (value x ≡ negsuc 32767 → value y ≡ negsuc 0 → ⊥) → Divides x y
 unfolding quot rem
-divides x y hx hy nz corner =
-    let q : value (quot x y) ≡ quotZ (value x) (value y) = value-of-word (quotZ (value x) (value y))
+divides x y hx hy nz corner = let q : value (quot x y) ≡ quotZ (value x) (value y) = value-of-word (quotZ (value x) (value y))
     (quotient-small (value x) (value y) (value-small x hx) corner) in
     let r : value (rem x y) ≡ remZ (value x) (value y) = value-of-word (remZ (value x) (value y))
     (lt-of-le-of-lt (mag-rem (value x) (value y)) (value-small x hx)) in

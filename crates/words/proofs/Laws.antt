@@ -24,20 +24,14 @@ pub halves : {P : Type 0} (x : ℕ) → (x < 32768 → P) → (32768 ≤ x → P
 halves {P} x low high = by-cases (ltb x 32768) (λ e. low (ltb-true x 32768 e)) (λ e. high (ltb-false x 32768 e))
 
 pub negative-is : (x : ℕ) → leb 32768 x ≡ not (nonNeg (value x))
-negative-is x =
-    halves x
-    (λ h. simp (value-low x h, lt-leb 32768 x h))
-    (λ h. simp (value-high x h, le-leb 32768 x h))
+negative-is x = halves x (λ h. simp (value-low x h, lt-leb 32768 x h)) (λ h. simp (value-high x h, le-leb 32768 x h))
 
 module _ (x : ℕ) (h : x < 65536) where
   pub magnitude-high : 32768 ≤ x → 65535 - x + 1 ≡ natAbs (value x)
   magnitude-high k = simp (value-high x k) (omega arith)
 
   pub magnitude-positive : (x ≡ 0 → ⊥) → 0 < natAbs (value x)
-  magnitude-positive k =
-      halves x
-      (λ l. simp (value-low x l) (omega arith))
-      (λ l. simp (value-high x l) (omega arith))
+  magnitude-positive k = halves x (λ l. simp (value-low x l) (omega arith)) (λ l. simp (value-high x l) (omega arith))
 
 pub magnitude-low : (x : ℕ) → x < 32768 → x ≡ natAbs (value x)
 magnitude-low x k = simp (value-low x k)
@@ -49,12 +43,9 @@ same-test a b c d f g = by-cases (ltb a b) (λ e. e ∙ sym (lt-ltb c d (f (ltb-
 
 pub below-is : {p q : ℕ} (x y : ℕ) → x < 65536 → y < 65536 → p ≡ add x 32768 → q ≡ add y 32768 → ltb p q ≡ below x y
 unfolding below
-below-is {p} {q} x y hx hy hp hq =
-    halves x
-    (λ a. halves y
+below-is {p} {q} x y hx hy hp hq = halves x (λ a. halves y
     (λ b. simp (value-low x a, value-low y b) (same-test p q x y (λ h. omega arith) (λ h. omega arith)))
-    (λ b. simp (value-low x a, value-high y b) (le-ltb p q (omega arith))))
-    (λ a. halves y
+    (λ b. simp (value-low x a, value-high y b) (le-ltb p q (omega arith)))) (λ a. halves y
     (λ b. simp (value-high x a, value-low y b) (lt-ltb p q (omega arith)))
     (λ b. simp (value-high x a, value-high y b) (same-test p q (65535 - y) (65535 - x) (λ h. omega arith) (λ h. omega arith))))
 
@@ -118,8 +109,7 @@ module _ (x y : ℕ) {a b r : ℕ} {u : Bool} (nz : y ≡ 0 → ⊥) (ha : a ≡
 -- ---- products and shifts
 
 pub wide : {x y : ℕ} → x < 65536 → y < 65536 → x * y < 2 ^ 32
-wide {x} {y} hx hy =
-    let a : x ≤ 65535 = omega arith in
+wide {x} {y} hx hy = let a : x ≤ 65535 = omega arith in
     let b : y ≤ 65535 = omega arith in
     lt-of-le-of-lt (mul-le-mul a b) (lit< tt)
 

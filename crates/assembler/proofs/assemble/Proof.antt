@@ -70,8 +70,7 @@ module _ {M : Type 1} (𝓤 : URA M) (H : Heap 𝓤) (A : Atoms 𝓤) (W : Given
         → ent 𝓤 (onEntry 𝓤 H A assemble.signature (κ₀, (κ₁, (κ₂, tt))) (q₀, (q₁, (q₂, tt))) a args)
         (WpFn 𝓤 H (𝓣 .C) (𝓣 .Λ) code.function (slice-of text ∷ slice-of memory ∷ slice-of labels ∷ [])
         (walkOf 𝓤 H A assemble.ended stayed (assemble.clauses 𝓤 H A at-mem run) .post y))
-    walk gt gm gl =
-        qed W ((‵ (flft κ₀ q₀) ⊛ ‵ (flft κ₁ q₁) ⊛ ‵ (flft κ₂ q₂) ⊛ ‵ ftrue) ∷ ‵
+    walk gt gm gl = qed W ((‵ (flft κ₀ q₀) ⊛ ‵ (flft κ₁ q₁) ⊛ ‵ (flft κ₂ q₂) ⊛ ‵ ftrue) ∷ ‵
         (owns (ShrSlice (named 0) κ₀ u8 ∷ MutSlice (named 1) κ₁ u16 ∷ MutSlice (named 2) κ₂ T.the-row ∷ []) a args) ∷ []) ∵ enter ! (𝓣 .C) (𝓣 .Λ)
         code.function (slice-of text ∷ slice-of memory ∷ slice-of labels ∷ []) _ $
         alloc1 ! (λ l₀. alloc1 ! (λ l₁. alloc1 ! (λ l₂. alloc1 ! (λ l₃. alloc1 ! (λ l₄. alloc1 ! (λ l₅. alloc1 ! (λ l₆. alloc1 ! (λ l₇.
@@ -181,22 +180,18 @@ module _ {M : Type 1} (𝓤 : URA M) (H : Heap 𝓤) (A : Atoms 𝓤) (W : Given
         owned ! E.the-row (Is E.the-row) (EL.makes E.the-type E′.the-plain 𝓤 H A) r _ is $ done !)))))))))))))))))))))))))))))
 
   assemble-meets : Meets 𝓤 H A assemble.signature (WpFn 𝓤 H (𝓣 .C) (𝓣 .Λ) code.function) (assemble.spec 𝓤 H A at-mem run)
-  assemble-meets =
-      walk-met 𝓤 H A W 𝓣 code.function assemble.ended stayed (assemble.clauses 𝓤 H A at-mem run) (
-        goes-none-slice 𝓤 H A W 3 (0 ∷ []) tt (plain (λ _. u8)) yes,
-        (goes-gave-slice 𝓤 H A W 3 1 tt (plain (λ _. u16)), (goes-gave-slice 𝓤 H A W 3 2 tt (plain (λ _. T.the-row)), tt)),
-      ) (λ κs. (slice-vals, (slice-vals, (slice-vals, tt))))
-      (λ κs. (
-        shr-slice-tells (named 0) (κs .0) u8,
-        (mut-slice-tells (named 1) (κs .1 .0) u16, (mut-slice-tells (named 2) (κs .1 .1 .0) T.the-row, tt)),
-      ))
-      (λ κs qs bounds a g are. walk (κs .0) (κs .1 .0) (κs .1 .1 .0) (qs .0) (qs .1 .0) (qs .1 .1 .0) (a .0) (a .1 .0) (a .1 .1 .0) (are .0 .0 .1)
+  assemble-meets = walk-met 𝓤 H A W 𝓣 code.function assemble.ended stayed (assemble.clauses 𝓤 H A at-mem run) (
+    goes-none-slice 𝓤 H A W 3 (0 ∷ []) tt (plain (λ _. u8)) yes,
+    (goes-gave-slice 𝓤 H A W 3 1 tt (plain (λ _. u16)), (goes-gave-slice 𝓤 H A W 3 2 tt (plain (λ _. T.the-row)), tt)),
+  ) (λ κs. (slice-vals, (slice-vals, (slice-vals, tt)))) (λ κs. (
+    shr-slice-tells (named 0) (κs .0) u8,
+    (mut-slice-tells (named 1) (κs .1 .0) u16, (mut-slice-tells (named 2) (κs .1 .1 .0) T.the-row, tt)),
+  )) (λ κs qs bounds a g are. walk (κs .0) (κs .1 .0) (κs .1 .1 .0) (qs .0) (qs .1 .0) (qs .1 .1 .0) (a .0) (a .1 .0) (a .1 .1 .0) (are .0 .0 .1)
       (are .1 .0 .0 .1) (are .1 .1 .0 .0 .1))
 
 pub assemble-spec : {M : Type 1} → stated.statement M
 unfolding code.routine tablesOf
-assemble-spec 𝓤 H 𝓜 𝓖 𝓡 =
-    entered 𝓤 H _ (tables 𝓤 H 𝓜 𝓡 code.env .C) (tables 𝓤 H 𝓜 𝓡 code.env .Λ) #assemble code.function (code.unfolded 𝓤 H 𝓜 𝓡)
+assemble-spec 𝓤 H 𝓜 𝓖 𝓡 = entered 𝓤 H _ (tables 𝓤 H 𝓜 𝓡 code.env .C) (tables 𝓤 H 𝓜 𝓡 code.env .Λ) #assemble code.function (code.unfolded 𝓤 H 𝓜 𝓡)
     (assemble-meets 𝓤 H (𝓖 .A) (givenOf 𝓤 H 𝓜 𝓖) (𝓜 .mem) (𝓡 .run) (tablesOf 𝓤 H 𝓜 (tables 𝓤 H 𝓜 𝓡 code.env))
     (cited 𝓤 H _ 𝓜 𝓡 code.env #no-keys no-keys-routine code.calls-assembler·no-keys (no-keys-thm.met 𝓤 H 𝓜 𝓖 𝓡))
     (cited 𝓤 H _ 𝓜 𝓡 code.env #passes passes-routine code.calls-assembler·assemble-for (passes-thm.met 𝓤 H 𝓜 𝓖 𝓡))

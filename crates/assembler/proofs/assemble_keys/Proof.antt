@@ -11,8 +11,7 @@ assemble-from-requires c κs =
     (tested .before .if1 .left) (tested .if2 .left)
 
 pub assemble-keys-spec : {M : Type 1} → Rattle.assembler.proofs.assemble_keys.Statement.statement M
-assemble-keys-spec =
-    tie.close
+assemble-keys-spec = tie.close
     (tie.spec (search needs) (search needs) (search needs) (search needs) (search needs) (λ c. search assembles-short) (search needs) (search needs)
     (search needs) (λ c. search assembles-long) (search needs) (search needs) (search needs) (search needs) assemble-from-requires (search needs)
     (search needs) (λ c. search (assembles-not, begins-not)) (search needs) (search needs) (λ c. search (needs, assembles-from, begins)))

@@ -9,7 +9,5 @@ abbrev μ-loop : tie.MeasureT-loop
 μ-loop labels₀ i₀ labels i = length labels₀ - i
 
 pub clear-labels-spec : {M : Type 1} → Rattle.assembler.proofs.clear_labels.Statement.statement M
-clear-labels-spec =
-    tie.close
-    (tie.spec Inv-loop μ-loop (λ c. search clearing-starts) (search needs) (search needs) (search needs) (search needs)
+clear-labels-spec = tie.close (tie.spec Inv-loop μ-loop (λ c. search clearing-starts) (search needs) (search needs) (search needs) (search needs)
     (λ c. search (needs, clearing-goes-on)) (search needs) (λ c. search (needs, all-cleared)))

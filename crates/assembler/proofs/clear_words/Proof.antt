@@ -9,7 +9,5 @@ abbrev μ-loop : tie.MeasureT-loop
 μ-loop memory₀ i₀ memory i = length memory₀ - i
 
 pub clear-words-spec : {M : Type 1} → Rattle.assembler.proofs.clear_words.Statement.statement M
-clear-words-spec =
-    tie.close
-    (tie.spec Inv-loop μ-loop (λ c. search clearing-starts) (search needs) (search needs) (search needs) (search needs)
+clear-words-spec = tie.close (tie.spec Inv-loop μ-loop (λ c. search clearing-starts) (search needs) (search needs) (search needs) (search needs)
     (λ c. search (needs, clearing-goes-on)) (search needs) (λ c. search (needs, all-cleared)))

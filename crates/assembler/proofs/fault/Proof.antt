@@ -8,14 +8,12 @@ use Rattle.assembler.proofs.fault.Tie as tie
 
 label-fault-requires : tie.Need-label-fault-requires
 unfolding inRange itemOf
-label-fault-requires c κs =
-    let ranged : inRange (itemOf blank (c .before .before .before .before .before .args .item)) ≡ true = search held in
+label-fault-requires c κs = let ranged : inRange (itemOf blank (c .before .before .before .before .before .args .item)) ≡ true = search held in
     (search needs, rw (c .before .item .given .1) at ranged)
 
 pub fault-spec : {M : Type 1} → Rattle.assembler.proofs.fault.Statement.statement M
 unfolding misplaced itemOf
-fault-spec =
-    tie.close
+fault-spec = tie.close
     (tie.spec (search needs) (λ c. fault-out _ _ _ _ _ (search failed)) (search needs) label-fault-requires (search needs) (λ c κs. search held)
     (search needs) (search needs) (λ c κs. search held) (search needs) (search needs) (λ c κs. search held) (search needs) (search needs)
     (λ c. fault-in _ _ _ _ _ (search held) (rw (c .before .before .item .given .1) (c .label-fault .ensures)))

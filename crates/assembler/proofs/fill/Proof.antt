@@ -96,9 +96,7 @@ module _ {M : Type 1} (𝓤 : URA M) (H : Heap 𝓤) (A : Atoms 𝓤) (W : Given
 
       turns : (i : Upto) → Turns W 𝓣 Nearer At En parts.turn-1 parts.t-3 Post i
       unfolding afterTurn
-      turns i =
-          let zs = i .1 .0 in
-          sets ! 11 (of-opd ! (local-field ! 17 refl (sub ! 1 refl (whole !)))) refl (tt, record { fits = gy .0 }) $
+      turns i = let zs = i .1 .0 in sets ! 11 (of-opd ! (local-field ! 17 refl (sub ! 1 refl (whole !)))) refl (tt, record { fits = gy .0 }) $
           sets ! 9 (bin ! (local ! 13 refl) (local ! 11 refl) tt) refl (tt, tt) $
           while-test ! (local ! 9 refl)
           (λ less. let l = ltb→lt (i .0) (length ys) less in let in-zs = subst (λ (m : ℕ). i .0 < m) (sym (i .1 .1 .1 .0)) l in let fits = byte-of
@@ -117,8 +115,7 @@ module _ {M : Type 1} (𝓤 : URA M) (H : Heap 𝓤) (A : Atoms 𝓤) (W : Given
           let typed = LL.lawful T.the-type T′.the-laws 𝓤 H A W .typed r _ is .0 in
           lands-in ! 8 refl typed $ leave ! $ split ! $ move ! (1 ∷ []) $ leave ! $
           -- [κ′'s token; Own; obs; the borrow; κ's token; _7; …]
-          assigns ! (bin ! (local ! 13 refl) (lit ! tt) (record { fits = fits })) (from ! (stop !))
-          (store ! 11 refl (tt, record { fits = fits })) $
+          assigns ! (bin ! (local ! 13 refl) (lit ! tt) (record { fits = fits })) (from ! (stop !)) (store ! 11 refl (tt, record { fits = fits })) $
           sets ! 5 (bin ! (local-field ! 17 refl (sub ! 0 refl (whole !))) (local ! 11 refl) tt) refl (tt, tt) $
           rewrite ! 5 (λ (p : ℕ). ‵ (fat fullShare tyPtr l₇ 0 (vptr b p))) (sym (place-is 4 o (i .0))) refl $
           move ! (2 ∷ 3 ∷ 4 ∷ []) $ opens-slice ! tt T.the-row zs b o $ elem-out ! T.the-row (Is T.the-row) (shows 𝓤 H A T.the-row) vals
@@ -142,8 +139,7 @@ module _ {M : Type 1} (𝓤 : URA M) (H : Heap 𝓤) (A : Atoms 𝓤) (W : Given
           returns ! (look ! 19 refl) $ frees-cell ! 19 refl refl $ frees-cell ! 17 refl refl $ frees-cell ! 15 refl refl $ frees-cell ! 13 refl refl $
           frees-cell ! 11 refl refl $ frees-cell ! 9 refl refl $ frees-room ! 7 refl refl $ frees-room ! 5 refl refl $ free0 ! $
           suffices ! _ (ends-at 𝓤 H A fill.ended stayed (fill.clauses 𝓤 H A at-mem run) W y vunit tt (zs, (tt, tt)) (i .1 .1 .1 .0, (tt, tt))) $
-          says !
-          (filled-all ys ks (i .0) (i .1 .1 .0) (nltb→le (i .0) (length ys) over) (i .1 .1 .1 .1)) $
+          says ! (filled-all ys ks (i .0) (i .1 .1 .0) (nltb→le (i .0) (length ys) over) (i .1 .1 .1 .1)) $
           -- [obs; the borrow; κ; κ′; Own]
           nothing ! $ move ! (4 ∷ 0 ∷ []) $ join ! $ move ! (3 ∷ 0 ∷ []) $ join ! $ frame ! $
           fjoin ! $ pureI ! (at-slice T.the-row (record { ptr = (b, o); name = γ; now = zs }) (at .0)) (tt, (tt, tt))
@@ -153,8 +149,7 @@ module _ {M : Type 1} (𝓤 : URA M) (H : Heap 𝓤) (A : Atoms 𝓤) (W : Given
 
     walk : ent 𝓤 (onEntry 𝓤 H A fill.signature (κ, (κ′, tt)) (q, (q′, tt)) x at)
         (WpFn 𝓤 H (𝓣 .C) (𝓣 .Λ) code.function (sliceVal (b, o) (length ys) ∷ slice-of keys ∷ []) Post)
-    walk =
-        qed W ((‵ (flft κ q) ⊛ ‵ (flft κ′ q′) ⊛ ‵ ftrue) ∷ ‵ (owns (MutSlice (named 0) κ T.the-row ∷ ShrSlice (named 1) κ′ u32 ∷ []) x at) ∷ []) ∵
+    walk = qed W ((‵ (flft κ q) ⊛ ‵ (flft κ′ q′) ⊛ ‵ ftrue) ∷ ‵ (owns (MutSlice (named 0) κ T.the-row ∷ ShrSlice (named 1) κ′ u32 ∷ []) x at) ∷ []) ∵
         enter ! (𝓣 .C) (𝓣 .Λ) code.function (sliceVal (b, o) (length ys) ∷ slice-of keys ∷ []) _ $
         alloc1 ! (λ l₀. alloc1 ! (λ l₁. alloc1 ! (λ l₂. alloc1 ! (λ l₃. alloc1 ! (λ l₄. alloc1 ! (λ l₅. alloc1 ! (λ l₆.
         alloc1 ! (λ l₇. alloc0 ! $ params1 ! $
@@ -169,17 +164,14 @@ module _ {M : Type 1} (𝓤 : URA M) (H : Heap 𝓤) (A : Atoms 𝓤) (W : Given
         (0, (ys, (zero-le, (refl, filled-none ys ks))))))))))))
 
   fill-meets : Meets 𝓤 H A fill.signature (WpFn 𝓤 H (𝓣 .C) (𝓣 .Λ) code.function) (fill.spec 𝓤 H A at-mem run)
-  fill-meets =
-      walk-met 𝓤 H A W 𝓣 code.function fill.ended stayed (fill.clauses 𝓤 H A at-mem run)
+  fill-meets = walk-met 𝓤 H A W 𝓣 code.function fill.ended stayed (fill.clauses 𝓤 H A at-mem run)
       (goes-slice 𝓤 H A W 2 0 tt (plain (λ _. T.the-row)), (goes-none-slice 𝓤 H A W 2 (1 ∷ []) tt (plain (λ _. u32)) yes, tt))
-      (λ κs. (slice-vals, (slice-vals, tt)))
-      (λ κs. (mut-slice-tells (named 0) (κs .0) T.the-row, (shr-slice-tells (named 1) (κs .1 .0) u32, tt)))
+      (λ κs. (slice-vals, (slice-vals, tt))) (λ κs. (mut-slice-tells (named 0) (κs .0) T.the-row, (shr-slice-tells (named 1) (κs .1 .0) u32, tt)))
       (λ κs qs bounds a g are. walk (κs .0) (κs .1 .0) (qs .0) (qs .1 .0) (a .0 .ptr .0) (a .0 .ptr .1) (a .0 .name) (a .0 .now) (a .1 .0)
       (are .0 .0 .1) (are .1 .0 .0 .1))
 
 pub fill-spec : {M : Type 1} → stated.statement M
 unfolding code.routine tablesOf
-fill-spec 𝓤 H 𝓜 𝓖 𝓡 =
-    entered 𝓤 H _ (tables 𝓤 H 𝓜 𝓡 code.env .C) (tables 𝓤 H 𝓜 𝓡 code.env .Λ) #fill code.function (code.unfolded 𝓤 H 𝓜 𝓡)
+fill-spec 𝓤 H 𝓜 𝓖 𝓡 = entered 𝓤 H _ (tables 𝓤 H 𝓜 𝓡 code.env .C) (tables 𝓤 H 𝓜 𝓡 code.env .Λ) #fill code.function (code.unfolded 𝓤 H 𝓜 𝓡)
     (fill-meets 𝓤 H (𝓖 .A) (givenOf 𝓤 H 𝓜 𝓖) (𝓜 .mem) (𝓡 .run) (tablesOf 𝓤 H 𝓜 (tables 𝓤 H 𝓜 𝓡 code.env))
     (cited 𝓤 H _ 𝓜 𝓡 code.env #record-at record-at-routine code.calls-assembler·record-at (record-at-thm.met 𝓤 H 𝓜 𝓖 𝓡)))

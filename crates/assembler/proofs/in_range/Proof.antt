@@ -25,7 +25,6 @@ returns-6 c = rw (c .before .before .item4 .given .1, lt-leb _ _ (c .if1 .left))
 
 pub in-range-spec : {M : Type 1} → Rattle.assembler.proofs.in_range.Statement.statement M
 unfolding inRange itemOf
-in-range-spec =
-    tie.close
+in-range-spec = tie.close
     (tie.spec (search needs) (search needs) (search needs) (search needs) (search needs) (search needs) (search needs) (search needs) (search needs)
     returns returns-2 returns-3 (λ c. rw (c .enum-told .given .1)) returns-5 returns-6)

@@ -125,17 +125,14 @@ module _ {M : Type 1} (𝓤 : URA M) (H : Heap 𝓤) (A : Atoms 𝓤) (W : Given
         owned ! E.the-row (Is E.the-row) (EL.makes E.the-type E′.the-plain 𝓤 H A) r _ is $ done !))))))))))))))))
 
   load-meets : Meets 𝓤 H A load-fn.signature (WpFn 𝓤 H (𝓣 .C) (𝓣 .Λ) code.function) (load-fn.spec 𝓤 H A at-mem run)
-  load-meets =
-      walk-met 𝓤 H A W 𝓣 code.function load-fn.ended stayed (load-fn.clauses 𝓤 H A at-mem run)
+  load-meets = walk-met 𝓤 H A W 𝓣 code.function load-fn.ended stayed (load-fn.clauses 𝓤 H A at-mem run)
       (goes-none-slice 𝓤 H A W 2 (0 ∷ []) tt (plain (λ _. u8)) yes, (goes-gave-slice 𝓤 H A W 2 1 tt (plain (λ _. u16)), tt))
-      (λ κs. (slice-vals, (slice-vals, tt)))
-      (λ κs. (shr-slice-tells (named 0) (κs .0) u8, (mut-slice-tells (named 1) (κs .1 .0) u16, tt)))
+      (λ κs. (slice-vals, (slice-vals, tt))) (λ κs. (shr-slice-tells (named 0) (κs .0) u8, (mut-slice-tells (named 1) (κs .1 .0) u16, tt)))
       (λ κs qs bounds a g are. walk (κs .0) (κs .1 .0) (qs .0) (qs .1 .0) (a .0) (a .1 .0) (are .0 .0 .1) (are .1 .0 .0 .1))
 
 pub load-spec : {M : Type 1} → stated.statement M
 unfolding code.routine tablesOf
-load-spec 𝓤 H 𝓜 𝓖 𝓡 =
-    entered 𝓤 H _ (tables 𝓤 H 𝓜 𝓡 code.env .C) (tables 𝓤 H 𝓜 𝓡 code.env .Λ) #load code.function (code.unfolded 𝓤 H 𝓜 𝓡)
+load-spec 𝓤 H 𝓜 𝓖 𝓡 = entered 𝓤 H _ (tables 𝓤 H 𝓜 𝓡 code.env .C) (tables 𝓤 H 𝓜 𝓡 code.env .Λ) #load code.function (code.unfolded 𝓤 H 𝓜 𝓡)
     (load-meets 𝓤 H (𝓖 .A) (givenOf 𝓤 H 𝓜 𝓖) (𝓜 .mem) (𝓡 .run) (tablesOf 𝓤 H 𝓜 (tables 𝓤 H 𝓜 𝓡 code.env))
     (cited 𝓤 H _ 𝓜 𝓡 code.env #no-labels no-labels-routine code.calls-assembler·no-labels (no-labels-thm.met 𝓤 H 𝓜 𝓖 𝓡))
     (cited 𝓤 H _ 𝓜 𝓡 code.env #assemble assemble-routine code.calls-assembler·assemble (assemble-thm.met 𝓤 H 𝓜 𝓖 𝓡)))

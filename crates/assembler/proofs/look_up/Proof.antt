@@ -82,8 +82,7 @@ module _ {M : Type 1} (𝓤 : URA M) (H : Heap 𝓤) (A : Atoms 𝓤) (W : Given
     Own = ShrSlice (named 0) κ T.the-row .own (x .0) (at .0)
 
     exits : (r : Found) (w : Val) → Is E.the-row r (w ∷ []) → r ≡ lookedUp ys k → ent 𝓤 (⋆ 𝓤 H A (‵ (flft κ q) ∷ ‵ Own ∷ [])) (Post w)
-    exits r w is found =
-        qed W (‵ (flft κ q) ∷ ‵ Own ∷ []) ∵
+    exits r w is found = qed W (‵ (flft κ q) ∷ ‵ Own ∷ []) ∵
         suffices ! _ (ends-at 𝓤 H A look-up.ended stayed (look-up.clauses 𝓤 H A at-mem run) W y w r (tt, (tt, tt)) (tt, (tt, tt))) $ says ! found $
         nothing ! $ move ! (1 ∷ 0 ∷ []) $ join ! $ nothing ! $ owned ! u16 (Is u16) (uint-makes 𝓤 H A W w16) k _ (refl, gk) $ fjoin ! $
         move ! (2 ∷ 0 ∷ []) $ fjoin ! $ move ! (1 ∷ 0 ∷ []) $ frame ! $ frame ! $ owned ! E.the-row (Is E.the-row)
@@ -103,20 +102,16 @@ module _ {M : Type 1} (𝓤 : URA M) (H : Heap 𝓤) (A : Atoms 𝓤) (W : Given
 
       -- [the token; what the table owns; _8; …; _7; …; _0; …]
       abbrev At : Upto → List (Item 𝓤)
-      At i =
-          ‵ (flft κ q) ∷ ‵ Own ∷ room record-type l₈ (room tyPtr l₇ (room tyBool l₆ (room word l₅ (room record-type l₄
+      At i = ‵ (flft κ q) ∷ ‵ Own ∷ room record-type l₈ (room tyPtr l₇ (room tyBool l₆ (room word l₅ (room record-type l₄
           (cell word l₃ (vint w64 (i .0)) (cell (tyInt w16) l₂ (vint w16 k)
           (cell slice l₁ (sliceVal (b, o) (length ys)) (room answer-type l₀ []))))))))
 
       turns : (i : Upto) → Turns W 𝓣 Nearer At En parts.turn-1 parts.t-3 Post i
       unfolding afterTurn
-      turns i =
-          sets ! 8 (of-opd ! (local-field ! 16 refl (sub ! 1 refl (whole !)))) refl (tt, record { fits = gr .0 }) $
+      turns i = sets ! 8 (of-opd ! (local-field ! 16 refl (sub ! 1 refl (whole !)))) refl (tt, record { fits = gr .0 }) $
           sets ! 6 (bin ! (local ! 12 refl) (local ! 8 refl) tt) refl (tt, tt) $
-          while-test ! (local ! 6 refl)
-          (λ less. let l = ltb→lt (i .0) (length ys) less in let fits = byte-of (i .0) (length ys) l (gr .1) in
-          assigns ! (bin ! (local ! 12 refl) (lit ! tt) (record { fits = fits })) (from ! (stop !))
-          (store ! 8 refl (tt, record { fits = fits })) $
+          while-test ! (local ! 6 refl) (λ less. let l = ltb→lt (i .0) (length ys) less in let fits = byte-of (i .0) (length ys) l (gr .1) in
+          assigns ! (bin ! (local ! 12 refl) (lit ! tt) (record { fits = fits })) (from ! (stop !)) (store ! 8 refl (tt, record { fits = fits })) $
           sets ! 4 (bin ! (local-field ! 16 refl (sub ! 0 refl (whole !))) (local ! 8 refl) tt) refl (tt, tt) $
           rewrite ! 4 (λ (p : ℕ). ‵ (fat fullShare tyPtr l₇ 0 (vptr b p))) (sym (place-is 4 o (i .0))) refl $
           -- a copy of what the table owns is taken apart, for the fractured borrow in it
@@ -134,8 +129,7 @@ module _ {M : Type 1} (𝓤 : URA M) (H : Heap 𝓤) (A : Atoms 𝓤) (W : Given
           -- [the token; Own; _8; …]
           assigns ! (bin ! (local-field ! 10 refl (sub ! 0 refl (whole !))) (local ! 14 refl)
           tt) (from ! (stop !)) (store ! 6 refl (tt, tt)) $
-          if-test ! (local ! 6 refl)
-          (λ same. let label = getD ys (i .0) vacant in
+          if-test ! (local ! 6 refl) (λ same. let label = getD ys (i .0) vacant in
           nothing ! $ owned ! T.the-row (Is T.the-row) (LL.makes T.the-type T′.the-plain 𝓤 H A) label (vals label) g $ fjoin ! $ nothing ! $
           -- [no token; the argument; the token; Own; _8; …]
           calls-to ! (fmOf 𝓤 H (W .laws) 𝓣) told.ended (told.clauses 𝓤 H A at-mem run) known-told ((tt, tt, tt, (label, tt), (vals label, tt)), tt)
@@ -145,15 +139,13 @@ module _ {M : Type 1} (𝓤 : URA M) (H : Heap 𝓤) (A : Atoms 𝓤) (W : Given
           returns-within ! Post refl (look ! 18 refl) $ frees-cell ! 18 refl refl $ frees-cell ! 16 refl refl $ frees-cell ! 14 refl refl $
           frees-cell ! 12 refl refl $ frees-cell ! 10 refl refl $ frees-cell ! 8 refl refl $ frees-cell ! 6 refl refl $ frees-cell ! 4 refl refl $
           frees-cell ! 2 refl refl $ free0 ! $
-          by ! (exits r w is (looked-at ys k (i .0) (i .1 .1) l (eqb→eq _ k same) e)))))
-          (λ other. assigns-last ! (bin ! (local ! 12 refl) (lit ! tt)
+          by ! (exits r w is (looked-at ys k (i .0) (i .1 .1) l (eqb→eq _ k same) e))))) (λ other. assigns-last ! (bin ! (local ! 12 refl) (lit ! tt)
           (record { fits = next-fits (i .0) (length ys) l (gr .0) })) (from ! (stop !))
           (store ! 12 refl (tt, record { fits = next-fits (i .0) (length ys) l (gr .0) })) $
           forget ! 2 refl $ forget ! 4 refl $ forget ! 6 refl $ forget ! 8 refl $ forget ! 10 refl $
           again ! Nearer At i
           (i .0 + 1, (one-more (i .0) (length ys) l, looked-on ys k (i .0) (i .1 .1) l (differ (getD ys (i .0) vacant .number) k other)))
-          (nearer (i .0) (length ys) l)))))
-          (λ over. exec ! (𝓣 .C) (𝓣 .Λ) En parts.t-3 (atRet En Post) $
+          (nearer (i .0) (length ys) l))))) (λ over. exec ! (𝓣 .C) (𝓣 .Λ) En parts.t-3 (atRet En Post) $
           nothing ! $ nothing ! $
           calls-to ! (fmOf 𝓤 H (W .laws) 𝓣) missing.ended (missing.clauses 𝓤 H A at-mem run) known-missing ((tt, tt, tt, tt, tt), tt) (asks-none 𝓤)
           (λ r _. r ≡ Missing) (λ _ _. id⊢ 𝓤 _) (no-more !) (λ w r _ e. leave ! $ leave ! $
@@ -166,8 +158,7 @@ module _ {M : Type 1} (𝓤 : URA M) (H : Heap 𝓤) (A : Atoms 𝓤) (W : Given
 
     walk : ent 𝓤 (onEntry 𝓤 H A look-up.signature (κ, tt) (q, tt) x at)
         (WpFn 𝓤 H (𝓣 .C) (𝓣 .Λ) code.function (sliceVal (b, o) (length ys) ∷ vint w16 k ∷ []) Post)
-    walk =
-        qed W ((‵ (flft κ q) ⊛ ‵ ftrue) ∷ ‵ (owns (ShrSlice (named 0) κ T.the-row ∷ u16 ∷ []) x at) ∷ []) ∵ enter ! (𝓣 .C) (𝓣 .Λ) code.function
+    walk = qed W ((‵ (flft κ q) ⊛ ‵ ftrue) ∷ ‵ (owns (ShrSlice (named 0) κ T.the-row ∷ u16 ∷ []) x at) ∷ []) ∵ enter ! (𝓣 .C) (𝓣 .Λ) code.function
         (sliceVal (b, o) (length ys) ∷ vint w16 k ∷ []) _ $
         alloc1 ! (λ l₀. alloc1 ! (λ l₁. alloc1 ! (λ l₂. alloc1 ! (λ l₃. alloc1 ! (λ l₄. alloc1 ! (λ l₅. alloc1 ! (λ l₆. alloc1 ! (λ l₇.
         alloc1 ! (λ l₈. alloc0 ! $ params1 ! $
@@ -180,16 +171,14 @@ module _ {M : Type 1} (𝓤 : URA M) (H : Heap 𝓤) (A : Atoms 𝓤) (W : Given
         (turns l₀ l₁ l₂ l₃ l₄ l₅ l₆ l₇ l₈) (0, (zero-le, looked-none ys k)))))))))))
 
   look-up-meets : Meets 𝓤 H A look-up.signature (WpFn 𝓤 H (𝓣 .C) (𝓣 .Λ) code.function) (look-up.spec 𝓤 H A at-mem run)
-  look-up-meets =
-      walk-met 𝓤 H A W 𝓣 code.function look-up.ended stayed (look-up.clauses 𝓤 H A at-mem run)
+  look-up-meets = walk-met 𝓤 H A W 𝓣 code.function look-up.ended stayed (look-up.clauses 𝓤 H A at-mem run)
       (goes-none-slice 𝓤 H A W 1 (0 ∷ []) tt (plain (λ _. T.the-row)) yes, (goes-none 𝓤 H A W 1 (λ _. u16) yes (λ κs x f. refl), tt))
       (λ κs. (slice-vals, (uint-vals w16, tt))) (λ κs. (shr-slice-tells (named 0) (κs .0) T.the-row, (uint-tells w16, tt)))
       (λ κs qs bounds a g are. walk (κs .0) (qs .0) (a .0 .ptr .0) (a .0 .ptr .1) (a .0 .name) (a .0 .now) (a .1 .0) (are .0 .0 .1) (are .1 .0 .1))
 
 pub look-up-spec : {M : Type 1} → stated.statement M
 unfolding code.routine tablesOf
-look-up-spec 𝓤 H 𝓜 𝓖 𝓡 =
-    entered 𝓤 H _ (tables 𝓤 H 𝓜 𝓡 code.env .C) (tables 𝓤 H 𝓜 𝓡 code.env .Λ) #look-up code.function (code.unfolded 𝓤 H 𝓜 𝓡)
+look-up-spec 𝓤 H 𝓜 𝓖 𝓡 = entered 𝓤 H _ (tables 𝓤 H 𝓜 𝓡 code.env .C) (tables 𝓤 H 𝓜 𝓡 code.env .Λ) #look-up code.function (code.unfolded 𝓤 H 𝓜 𝓡)
     (look-up-meets 𝓤 H (𝓖 .A) (givenOf 𝓤 H 𝓜 𝓖) (𝓜 .mem) (𝓡 .run) (tablesOf 𝓤 H 𝓜 (tables 𝓤 H 𝓜 𝓡 code.env))
     (cited 𝓤 H _ 𝓜 𝓡 code.env #told told-routine code.calls-assembler·told (told-thm.met 𝓤 H 𝓜 𝓖 𝓡))
     (cited 𝓤 H _ 𝓜 𝓡 code.env #missing missing-routine code.calls-assembler·missing (missing-thm.met 𝓤 H 𝓜 𝓖 𝓡)))

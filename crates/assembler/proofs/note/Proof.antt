@@ -6,8 +6,7 @@ use Rattle.assembler.proofs.note.Tie as tie
 
 pub note-spec : {M : Type 1} → Rattle.assembler.proofs.note.Statement.statement M
 unfolding itemOf noted
-note-spec =
-    tie.close
+note-spec = tie.close
     (tie.spec (search needs) (search needs) (search needs) (search needs) (λ c. c .before .before .before .pre .free _ (c .before .item .given .1) .0)
     (λ c. omega (arith, c .before .before .before .pre .free _ (c .before .item .given .1) .0)) (search needs)
     (λ c. omega (arith, c .before .before .before .pre .free _ (c .before .item .given .1) .0)) (search needs)

@@ -9,7 +9,5 @@ returns-3 c = rw (c .before .before .x2 .given .1) (c .label-in-range .ensures)
 
 pub operand-in-range-spec : {M : Type 1} → Rattle.assembler.proofs.operand_in_range.Statement.statement M
 unfolding operandInRange operandOf
-operand-in-range-spec =
-    tie.close
-    (tie.spec (search needs) (search needs) (search needs) (λ c. rw (c .before .before .x .given .1, c .if1 .taken))
+operand-in-range-spec = tie.close (tie.spec (search needs) (search needs) (search needs) (λ c. rw (c .before .before .x .given .1, c .if1 .taken))
     (λ c. rw (c .before .before .x .given .1, c .if1 .left)) returns-3)

@@ -10,7 +10,5 @@ signed-requires c κs = number-below _ (rw (c .before .x .given .1) at (c .befor
 
 pub short-spec : {M : Type 1} → Rattle.assembler.proofs.short.Statement.statement M
 unfolding short operandOf
-short-spec =
-    tie.close
-    (tie.spec (search needs) signed-requires (search needs) (λ c. rw (c .before .before .x .given .1, c .signed .ensures))
+short-spec = tie.close (tie.spec (search needs) signed-requires (search needs) (λ c. rw (c .before .before .x .given .1, c .signed .ensures))
     (λ c. rw (c .enum-told .given .1)))

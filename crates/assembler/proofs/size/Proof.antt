@@ -21,7 +21,5 @@ returns-5 c = rw (c .before .item2 .given .1, length-replicate, add-one)
 
 pub size-spec : {M : Type 1} → Rattle.assembler.proofs.size.Statement.statement M
 unfolding itemOf size
-size-spec =
-    tie.close
-    (tie.spec (search needs) (search needs) short-requires (search needs) (search needs) (search needs) (search needs)
+size-spec = tie.close (tie.spec (search needs) (search needs) short-requires (search needs) (search needs) (search needs) (search needs)
     (λ c. rw (c .enum-told .given .1)) returns-2 returns-3 (λ c. rw (c .enum-told2 .given .1)) returns-5 (λ c. rw (c .enum-told3 .given .1)))

@@ -19,6 +19,5 @@ returns c = rw (c .before .before .x .given .1) (ap At (c .signed .ensures))
 
 pub value-spec : {M : Type 1} → Rattle.assembler.proofs.value.Statement.statement M
 unfolding valueOf operandOf
-value-spec =
-    tie.close
+value-spec = tie.close
     (tie.spec (search needs) signed-requires (search needs) find-requires returns (λ c. rw (c .before .before .x2 .given .1) (c .find .ensures)))

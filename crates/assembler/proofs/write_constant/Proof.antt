@@ -5,7 +5,6 @@ use Rattle.assembler.proofs.write_constant.Tie as tie
 
 pub write-constant-spec : {M : Type 1} → Rattle.assembler.proofs.write_constant.Statement.statement M
 unfolding inRange size
-write-constant-spec =
-    tie.close
+write-constant-spec = tie.close
     (tie.spec (λ c _. c .before .pre .ranged) (search needs) (search needs) (search needs) (λ c. omega arith) (search needs)
     (λ c. search constant-unknown) (search needs) (λ c. search constant-known))

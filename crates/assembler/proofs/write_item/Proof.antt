@@ -12,13 +12,11 @@ unfolding itemOf
 write-constant-requires c κs = rw (c .before .before .item2 .given .1) at (c .before .before .before .before .before .before .pre .0)
 
 add-write-string : tie.Need-add-write-string
-add-write-string c =
-    omega (arith, c .before .before .before .before .before .before .pre .1 .spelled _ (c .before .before .item3 .given .1) .2)
+add-write-string c = omega (arith, c .before .before .before .before .before .before .pre .1 .spelled _ (c .before .before .item3 .given .1) .2)
 
 cast-write-string : tie.Need-cast-write-string
 unfolding itemOf
-cast-write-string c =
-    let matched = c .before .before in let start = matched .before .before .before .before in let is = matched .item3 .given .1 in
+cast-write-string c = let matched = c .before .before in let start = matched .before .before .before .before in let is = matched .item3 .given .1 in
     omega (arith, string-length _ _ _ _ _ (rw is at (start .pre .0)) (start .pre .1 .spelled _ is))
 
 write-string-requires : tie.Need-write-string-requires
@@ -41,8 +39,7 @@ returns-3 c = rw (c .before .before .before .before .before .item2 .given .1) (c
 
 returns-4 : tie.Need-returns-4
 unfolding itemOf
-returns-4 c =
-    let matched = c .before .before .before .before .before in let start = matched .before .before .before .before in
+returns-4 c = let matched = c .before .before .before .before .before in let start = matched .before .before .before .before in
     let is = matched .item3 .given .1 in
     rw is (string-writes _ _ _ _ _ (rw is at (start .pre .0)) (start .pre .1 .spelled _ is) _ (c .before .before .write-string .ensures))
 
@@ -52,8 +49,7 @@ returns-5 c = rw (c .before .before .before .before .before .item4 .given .1) (c
 
 pub write-item-spec : {M : Type 1} → Rattle.assembler.proofs.write_item.Statement.statement M
 unfolding itemOf
-write-item-spec =
-    tie.close
+write-item-spec = tie.close
     (tie.spec (search needs) (search needs) write-instruction-requires (search needs) write-constant-requires (search needs) add-write-string
     cast-write-string write-string-requires (search needs) (search needs) (search needs) write-global-requires
     (λ c. rw (c .enum-told .given .1) (search label-writes)) (search needs) returns-2 (search needs) returns-3 (search needs) returns-4

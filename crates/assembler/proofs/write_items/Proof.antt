@@ -23,31 +23,26 @@ write-item-requires : tie.Need-write-item-requires Inv-loop μ-loop
 write-item-requires c κs = (
   filling-writable _ _ _ _ _ _ _ (c .before .before .before .before .before .loop .inv)
       (reads-one _ _ (c .before .before .before .before .next-in .ensures) (c .before .before .next .given .1)),
-  filling-spelled _ _ _ _ _ _ _
-      (c .before .before .before .before .before .loop .inv)
+  filling-spelled _ _ _ _ _ _ _ (c .before .before .before .before .before .loop .inv)
       (reads-one _ _ (c .before .before .before .before .next-in .ensures) (c .before .before .next .given .1)),
 )
 
 returns-3 : tie.Need-returns-3 Inv-loop μ-loop
-returns-3 c =
-    filling-unknown _ _ _ _ _ _ _ (c .before .before .before .before .before .before .before .before .before .before .loop .inv)
+returns-3 c = filling-unknown _ _ _ _ _ _ _ (c .before .before .before .before .before .before .before .before .before .before .loop .inv)
     (reads-one _ _ (c .before .before .before .before .before .before .before .before .before .next-in .ensures)
     (c .before .before .before .before .before .before .before .next .given .1)) (c .before .before .before .before .write-item .ensures)
     (c .enum-told3 .given .1)
 
 loop-less : tie.Need-loop-less Inv-loop μ-loop
-loop-less c =
-    omega (
-      arith,
-      reads-one _ _ (c .before .before .before .before .before .before .before .before .before .before .next-in .ensures)
-          (c .before .before .before .before .before .before .before .before .next .given .1) .onward,
-      reads-one _ _
-          (c .before .before .before .before .before .before .before .before .before .before .next-in .ensures)
-          (c .before .before .before .before .before .before .before .before .next .given .1) .within,
-    )
+loop-less c = omega (
+  arith,
+  reads-one _ _ (c .before .before .before .before .before .before .before .before .before .before .next-in .ensures)
+      (c .before .before .before .before .before .before .before .before .next .given .1) .onward,
+  reads-one _ _ (c .before .before .before .before .before .before .before .before .before .before .next-in .ensures)
+      (c .before .before .before .before .before .before .before .before .next .given .1) .within,
+)
 
 pub write-items-spec : {M : Type 1} → Rattle.assembler.proofs.write_items.Statement.statement M
-write-items-spec =
-    tie.close
+write-items-spec = tie.close
     (tie.spec Inv-loop μ-loop (λ c. search filling-start) (search needs) (search needs) (search needs) returns (search needs) (search needs) returns-2
     (search needs) write-item-requires (search needs) (search needs) returns-3 (search needs) loop-less (λ c. search (filling-on, reads-one)))

@@ -4,7 +4,6 @@ use Rattle.laws.proofs.Basics.{needs}
 use Rattle.bcpl.proofs.print_file.Tie as tie
 
 pub print-file-spec : {M : Type 1} → Rattle.bcpl.proofs.print_file.Statement.statement M
-print-file-spec =
-    tie.close
+print-file-spec = tie.close
     (tie.spec (search needs) (search needs) (search needs) (search needs) (search needs) (search needs) (search needs) (λ c. search loaded)
     (λ c. search loaded-part) (search needs) (search needs))

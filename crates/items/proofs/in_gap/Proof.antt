@@ -5,7 +5,6 @@ use Rattle.items.proofs.in_gap.Tie as tie
 
 pub in-gap-spec : {M : Type 1} → Rattle.items.proofs.in_gap.Statement.statement M
 unfolding inGap
-in-gap-spec =
-    tie.close
+in-gap-spec = tie.close
     (tie.spec (λ c. rw (c .if1 .taken)) (λ c. rw (c .before .if1 .left, c .match .keys1)) (λ c. rw (c .before .if1 .left, c .match .keys2))
     (λ c. rw (c .before .if1 .left, c .match .keys3)) (λ c. rw (c .before .if1 .left) (sym (search in-gap-other))))

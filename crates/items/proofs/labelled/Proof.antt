@@ -8,8 +8,7 @@ use Rattle.items.proofs.labelled.Tie as tie
 
 pub labelled-spec : {M : Type 1} → Rattle.items.proofs.labelled.Statement.statement M
 unfolding asOperand
-labelled-spec =
-    tie.close
+labelled-spec = tie.close
     (tie.spec (λ c. omega (arith, inside (c .before .args .text .now) (c .before .args .at) (c .before .pre) (omega arith))) (search needs)
     (search needs) (search needs)
     (λ c. an-operand labelled _ _ (labelled-reads _ _ (c .before .before .before .before .before .pre) (search decimal-reads)))

@@ -8,8 +8,7 @@ use Rattle.items.proofs.negative.Tie as tie
 
 pub negative-spec : {M : Type 1} → Rattle.items.proofs.negative.Statement.statement M
 unfolding asOperand
-negative-spec =
-    tie.close
+negative-spec = tie.close
     (tie.spec (λ c. omega (arith, inside (c .before .args .text .now) (c .before .args .at) (c .before .pre) (omega arith))) (search needs)
     (search needs) (search needs)
     (λ c. an-operand negative _ _ (negative-reads _ _ (c .before .before .before .before .before .pre) (search decimal-reads)))

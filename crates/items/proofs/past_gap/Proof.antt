@@ -10,8 +10,7 @@ abbrev μ-loop : tie.MeasureT-loop
 μ-loop text at comment₀ i₀ comment i = length text - i
 
 returns : tie.Need-returns Inv-loop μ-loop
-returns c =
-    let text = c .before .before .before .before .before .before .args .text .now in
+returns c = let text = c .before .before .before .before .before .before .args .text .now in
     omega (
       arith,
       gap-stops text (c .before .before .before .before .loop .i) (c .before .before .before .before .loop .comment) (omega arith)
@@ -19,8 +18,7 @@ returns c =
     )
 
 loop-again : tie.Need-loop-again Inv-loop μ-loop
-loop-again c =
-    let text = c .before .before .before .before .before .before .before .args .text .now in
+loop-again c = let text = c .before .before .before .before .before .before .before .args .text .now in
     omega (
       arith,
       gap-goes text (c .before .before .before .before .before .loop .i) (c .before .before .before .before .before .loop .comment)
@@ -28,7 +26,6 @@ loop-again c =
     )
 
 pub past-gap-spec : {M : Type 1} → Rattle.items.proofs.past_gap.Statement.statement M
-past-gap-spec =
-    tie.close
+past-gap-spec = tie.close
     (tie.spec Inv-loop μ-loop (search needs) (search needs) (search needs) returns (search needs) (λ c. omega arith) (λ c. omega arith) loop-again
     (λ c. omega (arith, gap-end (c .before .before .before .args .text .now) (c .before .loop .i) (c .before .loop .comment) (omega arith))))

@@ -4,8 +4,7 @@ use Rattle.items.proofs.Elements.{start-from, start-none}
 use Rattle.items.proofs.start_in.Tie as tie
 
 add-t4 : tie.Need-add-t4
-add-t4 c =
-    let text = c .before .before .before .before .args .text .now in
+add-t4 c = let text = c .before .before .before .before .args .text .now in
     omega (arith, mark-inside text (c .before .before .past-gap .result) 36 (sym (c .before .marked .ensures) ∙ c .if1 .taken) (omega arith))
 
 pub start-in-spec : {M : Type 1} → Rattle.items.proofs.start_in.Statement.statement M

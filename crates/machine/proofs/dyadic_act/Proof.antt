@@ -5,8 +5,7 @@ use Rattle.machine.proofs.dyadic_act.Tie as tie
 
 pub dyadic-act-spec : {M : Type 1} → Rattle.machine.proofs.dyadic_act.Statement.statement M
 unfolding valueOf
-dyadic-act-spec =
-    tie.close
+dyadic-act-spec = tie.close
     (tie.spec (search needs) (search needs) (search needs) (search needs) (search needs) (search needs) (search needs) (search needs) (search needs)
     (search needs) (search needs) (search needs) (search needs) (search needs) (search needs) (search needs) (search needs)
     (λ c. search dyadic-act-is) (λ c. search dyadic-act-divides) (λ c. search dyadic-act-divides) (λ c. search dyadic-act-is)

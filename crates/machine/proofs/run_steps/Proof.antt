@@ -11,8 +11,7 @@ abbrev μ-loop : tie.MeasureT-loop
 μ-loop memory₀ input output₀ budget r₀ left₀ memory output r left = left
 
 pub run-steps-spec : {M : Type 1} → Rattle.machine.proofs.run_steps.Statement.statement M
-run-steps-spec =
-    tie.close
+run-steps-spec = tie.close
     (tie.spec Inv-loop μ-loop (λ _. (left-all _ _ _, refl, refl)) (search needs) (search needs) (search needs) (λ c. omega arith) (λ c. omega arith)
     (λ c. search left-stop) (search needs) (search needs) (λ c. omega arith) (λ c. omega arith) (λ c. omega arith) (λ c. search left-finish)
     (search needs) (λ c. omega arith) (λ c. omega arith) (λ c. (search left-run-steps, omega arith, omega arith)) (λ c. omega arith)

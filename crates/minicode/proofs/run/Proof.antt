@@ -4,8 +4,7 @@ use Rattle.laws.proofs.Basics.{needs}
 use Rattle.minicode.proofs.run.Tie as tie
 
 pub run-spec : {M : Type 1} → Rattle.minicode.proofs.run.Statement.statement M
-run-spec =
-    tie.close
+run-spec = tie.close
     (tie.spec (search needs) (search needs) (search needs) (search needs) (search needs) (search needs) (search needs) (search needs) (search needs)
     (search needs) (λ c. search loaded) (λ c. search loaded-part) (search needs) (search needs) (search needs) (search needs) (search needs)
     (search needs))

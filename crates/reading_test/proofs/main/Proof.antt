@@ -8,7 +8,6 @@ abbrev μ-loop : tie.MeasureT-loop
 μ-loop count i₀ i = count - i
 
 pub main-spec : {M : Type 1} → Rattle.reading_test.proofs.main.Statement.statement M
-main-spec =
-    tie.close
+main-spec = tie.close
     (tie.spec Inv-loop μ-loop (search needs) (search needs) (search needs) (search needs) (search needs) (search needs) (search needs) (search needs)
     (search needs) (search needs) (search needs) (search needs))

@@ -8,7 +8,6 @@ abbrev μ-loop : tie.MeasureT-loop
 μ-loop entries row at₀ t3 at = length entries - at
 
 pub print-entries-spec : {M : Type 1} → Rattle.reading_test.proofs.print_entries.Statement.statement M
-print-entries-spec =
-    tie.close
+print-entries-spec = tie.close
     (tie.spec Inv-loop μ-loop (search needs) (search needs) (search needs) (search needs) (search needs) (search needs) (search needs) (search needs)
     (search needs) (search needs))

@@ -9,7 +9,5 @@ abbrev μ-loop : tie.MeasureT-loop
 μ-loop scratch₀ from i₀ scratch i = length scratch₀ - i
 
 pub clear-from-spec : {M : Type 1} → Rattle.symbols.proofs.clear_from.Statement.statement M
-clear-from-spec =
-    tie.close
-    (tie.spec Inv-loop μ-loop (λ c. search clearing-starts) (search needs) (search needs) (search needs) (search needs)
+clear-from-spec = tie.close (tie.spec Inv-loop μ-loop (λ c. search clearing-starts) (search needs) (search needs) (search needs) (search needs)
     (λ c. search (needs, clearing-goes-on)) (search needs) (λ c. search (needs, clearing-ends)))

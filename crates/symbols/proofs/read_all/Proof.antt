@@ -13,8 +13,7 @@ abbrev μ-loop : tie.MeasureT-loop
 μ-loop classes table text stack₀ scratch₀ at₀ depth₀ count₀ before₀ strings₀ stack scratch at depth count before strings = length text - at
 
 pub read-all-spec : {M : Type 1} → Rattle.symbols.proofs.read_all.Statement.statement M
-read-all-spec =
-    tie.close
+read-all-spec = tie.close
     (tie.spec Inv-loop μ-loop (λ c. (going-start _ _, search putting-start)) (λ c κs. (c .loop .inv .0 .within, search needs, search needs))
     (search needs) (search needs) (search needs) (search needs) (λ c. search (refused, going-wrong)) (search needs) (search needs) (search needs)
     (search needs) (λ c. search (refused, going-open)) (search needs) (search needs) (search needs) (search needs)

@@ -14,7 +14,6 @@ returns-3 c =
     (c .before .line-of .ensures)
 
 pub answer-tree-spec : {M : Type 1} → Rattle.testbed.proofs.answer_tree.Statement.statement M
-answer-tree-spec =
-    tie.close
+answer-tree-spec = tie.close
     (tie.spec (search needs) (search needs) (search needs) (search needs) (search needs) (search needs) (search needs) returns (search needs)
     returns-2 (search needs) returns-3)

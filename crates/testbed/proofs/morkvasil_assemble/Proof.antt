@@ -64,8 +64,7 @@ module _ {M : Type 1} (𝓤 : URA M) (H : Heap 𝓤) (A : Atoms 𝓤) (W : Given
         → ent 𝓤 (onEntry 𝓤 H A exported.signature (κ₀, (κ₁, (κ₂, (κ₃, tt)))) (q₀, (q₁, (q₂, (q₃, tt)))) a args)
         (WpFn 𝓤 H (𝓣 .C) (𝓣 .Λ) code.function (slice-of text ∷ slice-of memory ∷ slice-of labels ∷ sa ∷ [])
         (walkOf 𝓤 H A exported.ended stayed (exported.clauses 𝓤 H A at-mem run) .post y))
-    walk gt gm gl =
-        qed W ((‵ (flft κ₀ q₀) ⊛ ‵ (flft κ₁ q₁) ⊛ ‵ (flft κ₂ q₂) ⊛ ‵ (flft κ₃ q₃) ⊛ ‵ ftrue) ∷ ‵
+    walk gt gm gl = qed W ((‵ (flft κ₀ q₀) ⊛ ‵ (flft κ₁ q₁) ⊛ ‵ (flft κ₂ q₂) ⊛ ‵ (flft κ₃ q₃) ⊛ ‵ ftrue) ∷ ‵
         (owns (ShrSlice (named 0) κ₀ u8 ∷ MutSlice (named 1) κ₁ u16 ∷ MutSlice (named 2) κ₂ T.the-row ∷ MutRef (named 3) κ₃ (Array u64 3) ∷ []) a
         args) ∷ []) ∵ enter ! (𝓣 .C) (𝓣 .Λ) code.function (slice-of text ∷ slice-of memory ∷ slice-of labels ∷ sa ∷ []) _ $
         alloc1 ! (λ l₀. alloc1 ! (λ l₁. alloc1 ! (λ l₂. alloc1 ! (λ l₃. alloc1 !
@@ -127,28 +126,25 @@ module _ {M : Type 1} (𝓤 : URA M) (H : Heap 𝓤) (A : Atoms 𝓤) (W : Given
         feqI ! (List Val) (vunit ∷ []) (vunit ∷ []) refl $ done !))))))))))))))))))
 
   exported-meets : Meets 𝓤 H A exported.signature (WpFn 𝓤 H (𝓣 .C) (𝓣 .Λ) code.function) (exported.spec 𝓤 H A at-mem run)
-  exported-meets =
-      walk-met 𝓤 H A W 𝓣 code.function exported.ended stayed (exported.clauses 𝓤 H A at-mem run) (
-        goes-none-slice 𝓤 H A W 4 (0 ∷ []) tt (plain (λ _. u8)) yes,
-        (
-          goes-gave-slice 𝓤 H A W 4 1 tt (plain (λ _. u16)),
-          (
-            goes-gave-slice 𝓤 H A W 4 2 tt (plain (λ _. T.the-row)),
-            (goes-gave-ref 𝓤 H A W 4 3 tt (plain (λ _. Array u64 3)), tt),
-          ),
-        ),
-      ) (λ κs. (slice-vals, (slice-vals, (slice-vals, (ptr-vals, tt)))))
-      (λ κs. (
-        shr-slice-tells (named 0) (κs .0) u8,
-        (
-          mut-slice-tells (named 1) (κs .1 .0) u16,
-          (
-            mut-slice-tells (named 2) (κs .1 .1 .0) T.the-row,
-            (mut-tells (named 3) (κs .1 .1 .1 .0) (Array u64 3), tt),
-          ),
-        ),
-      ))
-      (λ κs qs bounds a g are. walk (κs .0) (κs .1 .0) (κs .1 .1 .0) (κs .1 .1 .1 .0) (qs .0) (qs .1 .0) (qs .1 .1 .0) (qs .1 .1 .1 .0) (a .0)
+  exported-meets = walk-met 𝓤 H A W 𝓣 code.function exported.ended stayed (exported.clauses 𝓤 H A at-mem run) (
+    goes-none-slice 𝓤 H A W 4 (0 ∷ []) tt (plain (λ _. u8)) yes,
+    (
+      goes-gave-slice 𝓤 H A W 4 1 tt (plain (λ _. u16)),
+      (
+        goes-gave-slice 𝓤 H A W 4 2 tt (plain (λ _. T.the-row)),
+        (goes-gave-ref 𝓤 H A W 4 3 tt (plain (λ _. Array u64 3)), tt),
+      ),
+    ),
+  ) (λ κs. (slice-vals, (slice-vals, (slice-vals, (ptr-vals, tt))))) (λ κs. (
+    shr-slice-tells (named 0) (κs .0) u8,
+    (
+      mut-slice-tells (named 1) (κs .1 .0) u16,
+      (
+        mut-slice-tells (named 2) (κs .1 .1 .0) T.the-row,
+        (mut-tells (named 3) (κs .1 .1 .1 .0) (Array u64 3), tt),
+      ),
+    ),
+  )) (λ κs qs bounds a g are. walk (κs .0) (κs .1 .0) (κs .1 .1 .0) (κs .1 .1 .1 .0) (qs .0) (qs .1 .0) (qs .1 .1 .0) (qs .1 .1 .1 .0) (a .0)
       (a .1 .0) (a .1 .1 .0) (a .1 .1 .1 .0) (are .0 .0 .1) (are .1 .0 .0 .1) (are .1 .1 .0 .0 .1))
 
 pub morkvasil-assemble-spec : {M : Type 1} → stated.statement M

@@ -17,7 +17,6 @@ returns-4 c =
     (c .before .line-of .ensures)
 
 pub morkvasil-symbols-spec : {M : Type 1} → Rattle.testbed.proofs.morkvasil_symbols.Statement.statement M
-morkvasil-symbols-spec =
-    tie.close
+morkvasil-symbols-spec = tie.close
     (tie.spec (search needs) (search needs) (search needs) (search needs) (search needs) (search needs) (search needs) (search needs) returns
     (search needs) returns-2 (search needs) returns-3 (search needs) returns-4)

@@ -5,8 +5,7 @@ use Rattle.text.proofs.Quotes.{digit-least, no-first, no-second, no-thi
 use Rattle.text.proofs.by_digits.Tie as tie
 
 pub by-digits-spec : {M : Type 1} → Rattle.text.proofs.by_digits.Statement.statement M
-by-digits-spec =
-    tie.close
+by-digits-spec = tie.close
     (tie.spec (search needs) (λ c. search (told-mistake, no-first, failed)) (search needs) (λ c. search (told-mistake, no-second, held, failed))
     (search needs) (λ c. search (told-mistake, no-third, held, failed))
     (λ c. let asked = c .before .before .before .before in digit-least _ (held (asked .before .is-digit .ensures) (asked .if1 .left))) (search needs)

@@ -5,8 +5,7 @@ use Rattle.text.proofs.Quotes.{character-past, character-here, at-quote
 use Rattle.text.proofs.character_at.Tie as tie
 
 pub character-at-spec : {M : Type 1} → Rattle.text.proofs.character_at.Statement.statement M
-character-at-spec =
-    tie.close
+character-at-spec = tie.close
     (tie.spec (λ c. search (told-ended, character-past)) (search needs) (λ c. search (told-closing, character-here, at-quote)) (search needs)
     (search needs) (λ c. c .escape .ensures ∙ sym (ap asCharacter (search (character-here, at-asterisk))))
     (λ c. search (told-ended, character-here, at-newline)) (λ c. search (told-mistake, character-here, at-control))

@@ -7,9 +7,7 @@ use Rattle.text.proofs.escape.Tie as tie
 
 pub escape-spec : {M : Type 1} → Rattle.text.proofs.escape.Statement.statement M
 unfolding escape
-escape-spec =
-    tie.close
-    (tie.spec (λ c. search (told-mistake, escape-past)) (search needs) (search needs)
+escape-spec = tie.close (tie.spec (λ c. search (told-mistake, escape-past)) (search needs) (search needs)
     (λ c. told-is (escape-here _ _ (c .before .before .if1 .left) (c .match .keys1) refl))
     (λ c. told-is (escape-here _ _ (c .before .before .if1 .left) (c .match .keys2) refl))
     (λ c. told-is (escape-here _ _ (c .before .before .if1 .left) (c .match .keys3) refl))

@@ -11,19 +11,16 @@ abbrev μ-loop : tie.MeasureT-loop
 μ-loop text place line₀ i₀ line i = length text - i
 
 returns : tie.Need-returns Inv-loop μ-loop
-returns c =
-    let text = c .before .before .before .args .text .now in
+returns c = let text = c .before .before .before .args .text .now in
     omega (arith, between-none text (c .before .before .before .args .place) (c .before .before .loop .i) (c .if1 .taken))
 
 loop-again : tie.Need-loop-again Inv-loop μ-loop
-loop-again c =
-    let head = c .before .before .before .before in let args = head .before .args in let i = head .loop .i in
+loop-again c = let head = c .before .before .before .before in let args = head .before .args in let i = head .loop .i in
     ⊎-elim (λ w. omega (arith, between-newline (args .text .now) (args .place) i (omega arith) (omega arith) (w .0 .taken)))
     (λ w. omega (arith, between-other (args .text .now) (args .place) i (omega arith) (omega arith) (w .0 .left))) (c .if2 .came)
 
 pub line-of-spec : {M : Type 1} → Rattle.text.proofs.line_of.Statement.statement M
-line-of-spec =
-    tie.close
+line-of-spec = tie.close
     (tie.spec Inv-loop μ-loop (λ c. omega (arith, between-all (c .args .text .now) (c .args .place))) returns (search needs) (λ c. omega arith)
     (λ c. omega arith) (λ c. omega arith) loop-again
     (λ c. omega (arith, between-past (c .before .before .args .text .now) (c .before .before .args .place) (c .before .loop .i) (omega arith))))

@@ -3,6 +3,5 @@ use Rattle.tree.proofs.Decoded.{too-short-long, too-short-few, too-shor
 use Rattle.tree.proofs.too_short.Tie as tie
 
 pub too-short-spec : {M : Type 1} → Rattle.tree.proofs.too_short.Statement.statement M
-too-short-spec =
-    tie.close (tie.spec (λ c. search too-short-long) (λ c. too-short-few _ _ (omega arith))
+too-short-spec = tie.close (tie.spec (λ c. search too-short-long) (λ c. too-short-few _ _ (omega arith))
     (λ c. too-short-rest _ _ (omega arith) (omega arith)))

@@ -13,7 +13,6 @@ returns-3 c = rw (c .before .before .before .before .enum-told3 .given .1) (c .b
 
 pub base-letter-spec : {M : Type 1} → Rattle.writing.proofs.base_letter.Statement.statement M
 unfolding baseText
-base-letter-spec =
-    tie.close
+base-letter-spec = tie.close
     (tie.spec (search needs) (search needs) (search needs) (search needs) (search needs) (λ c. rw (c .enum-told .given .1) appends-none)
     (search needs) returns-2 (search needs) returns-3)

@@ -9,8 +9,7 @@ Inv-loop s from end at₀ n₀ at n =
     (n ≤ at * 2 ^ 32) × ((lss : List (List Label)) → Row (CommandAt s) s end from lss → CountPart (commands s) s end at n lss)
 
 pub count-all-spec : {M : Type 1} → Rattle.compiler.proofs.labels.count_all.Statement.statement M
-count-all-spec =
-    tie.close (tie.spec Inv-loop (λ s from end at₀ n₀ at n. end - at) (λ c. (omega arith, λ lss r. search count-begin)) (search needs)
+count-all-spec = tie.close (tie.spec Inv-loop (λ s from end at₀ n₀ at n. end - at) (λ c. (omega arith, λ lss r. search count-begin)) (search needs)
     (λ c κs. omega arith) (λ c _. c .labels-of .ensures .small) (λ c. omega arith) (λ c. omega arith)
     -- loop-again
     (λ c. (
@@ -21,6 +20,5 @@ count-all-spec =
           (after-loop .loop .inv .1 lss r)),
     ))
     (λ c. record {
-      by = λ lss r. count-end (commands _) _ (c .before .before .before .args .end) (c .loop-test .left) lss
-          (c .before .loop .inv .1 lss r);
+      by = λ lss r. count-end (commands _) _ (c .before .before .before .args .end) (c .loop-test .left) lss (c .before .loop .inv .1 lss r);
     }))

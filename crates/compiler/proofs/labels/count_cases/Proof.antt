@@ -11,9 +11,7 @@ pub count-cases-spec : {M : Type 1} → Rattle.compiler.proofs.labels.c
 count-cases-spec =
     tie.close (tie.spec Inv-loop (λ s from end at₀ n₀ at n. end - at) (λ c. (omega arith, omega arith, λ ls r. search count-begin)) (search needs)
     (search needs) (λ c. omega arith) (λ c. omega arith)
-    (λ c. (omega arith, omega arith, λ ls r. search (count-next, labels, c .before .before .before .loop .inv .2)))
-    (λ c. record {
+    (λ c. (omega arith, omega arith, λ ls r. search (count-next, labels, c .before .before .before .loop .inv .2))) (λ c. record {
       few = omega arith;
-      by = λ ls r. count-end (labels _) (c .before .before .before .args .s .now) _ (c .loop-test .left) ls
-          (c .before .loop .inv .2 ls r);
+      by = λ ls r. count-end (labels _) (c .before .before .before .args .s .now) _ (c .loop-test .left) ls (c .before .loop .inv .2 ls r);
     }))

@@ -7,8 +7,7 @@ abbrev Inv-loop : tie.InvT-loop
 Inv-loop source s from end top seen₀ at₀ r₀ seen at r = (length seen ≡ 8193) × ((y : ReadyLabels s from end top) → ListPart source r₀ y seen at r)
 
 pub doubled-spec : {M : Type 1} → Rattle.compiler.proofs.labels.doubled.Statement.statement M
-doubled-spec =
-    tie.close (tie.spec Inv-loop (λ source s from end top seen₀ at₀ r₀ seen at r. end - at) (search needs)
+doubled-spec = tie.close (tie.spec Inv-loop (λ source s from end top seen₀ at₀ r₀ seen at r. end - at) (search needs)
     (λ c. (search marks-long, λ y. search list-begin)) (search needs) (λ c κs. omega arith) (search needs)
     (λ c _. c .before .labels-of .ensures .small) (λ c. omega arith)
     -- loop-again

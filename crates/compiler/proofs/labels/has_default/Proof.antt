@@ -8,8 +8,7 @@ abbrev Inv-loop : tie.InvT-loop
 Inv-loop s from end at₀ at = (ls : List Label) → Row (LabelAt s) s end from ls → AmongPart s end at ls
 
 pub has-default-spec : {M : Type 1} → Rattle.compiler.proofs.labels.has_default.Statement.statement M
-has-default-spec =
-    tie.close (tie.spec Inv-loop (λ s from end at₀ at. end - at) (λ c. λ ls r. search among-begin) (search needs) (search needs)
+has-default-spec = tie.close (tie.spec Inv-loop (λ s from end at₀ at. end - at) (λ c. λ ls r. search among-begin) (search needs) (search needs)
     -- returns
     (λ c. record {
       by = λ ls r. among-found _ (c .before .before .before .before .before .before .args .end)

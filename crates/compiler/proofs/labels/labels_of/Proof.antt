@@ -3,5 +3,4 @@ use Rattle.laws.proofs.Basics.{needs}
 use Rattle.compiler.proofs.labels.labels_of.Tie as tie
 
 pub labels-of-spec : {M : Type 1} → Rattle.compiler.proofs.labels.labels_of.Statement.statement M
-labels-of-spec =
-    tie.close (tie.spec (search needs) (λ c. search spans-bare) (search needs) (λ c. search spans-none) (λ c. search spans-is))
+labels-of-spec = tie.close (tie.spec (search needs) (λ c. search spans-bare) (search needs) (λ c. search spans-none) (λ c. search spans-is))

@@ -7,8 +7,7 @@ abbrev Inv-loop : tie.InvT-loop
 Inv-loop source s from end top at₀ r₀ at r = (y : ReadyMisplaced s from end top) → MisplacedPart source r₀ y at r
 
 pub misplaced-spec : {M : Type 1} → Rattle.compiler.proofs.labels.misplaced.Statement.statement M
-misplaced-spec =
-    tie.close (tie.spec Inv-loop (λ source s from end top at₀ r₀ at r. end - at) (λ c. λ y. search misplaced-begin) (search needs)
+misplaced-spec = tie.close (tie.spec Inv-loop (λ source s from end top at₀ r₀ at r. end - at) (λ c. λ y. search misplaced-begin) (search needs)
     (λ c κs. omega arith) (λ c. omega arith)
     -- loop-again
     (λ c. λ y. misplaced-next _ (c .before .before .before .before .before .before .args .st) (c .before .before .loop-test .taken)

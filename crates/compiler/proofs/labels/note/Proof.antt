@@ -4,8 +4,7 @@ use Rattle.compiler.proofs.Doubling.{note-first, note-again, note-none}
 use Rattle.compiler.proofs.labels.note.Tie as tie
 
 pub note-spec : {M : Type 1} → Rattle.compiler.proofs.labels.note.Statement.statement M
-note-spec =
-    tie.close (tie.spec (search needs) (λ c. omega (arith, c .before .before .slice-known .given (c .before .before .before .args .i / 8)))
+note-spec = tie.close (tie.spec (search needs) (λ c. omega (arith, c .before .before .slice-known .given (c .before .before .before .args .i / 8)))
     (search needs) (search needs)
     (λ c. omega (arith, c .before .before .before .before .slice-known .given (c .before .before .before .before .before .args .i / 8)))
     -- cast-seen

@@ -8,8 +8,7 @@ room : (c : tie.After-node-at) → let start = c .before .before .before .before
 room c = function-room _ (c .node-at .ensures) (c .before .before .before .before .before .pre)
 
 pub function-spec : {M : Type 1} → Rattle.compiler.proofs.outer.function.Statement.statement M
-function-spec =
-    tie.close (tie.spec (search needs) (search needs) (search needs) (search needs) (λ c κs. (room (search) .0, omega arith, omega arith))
+function-spec = tie.close (tie.spec (search needs) (search needs) (search needs) (search needs) (λ c κs. (room (search) .0, omega arith, omega arith))
     (λ c. omega (arith, room (search))) (λ c κs. search function-names) (search needs) (search needs) (λ c. omega (arith, room (search)))
     (λ c. omega (arith, room (search))) (λ c. omega (arith, room (search))) (λ c. omega (arith, room (search)))
     -- body-requires
@@ -17,8 +16,7 @@ function-spec =
     let after-push = after-declare .before .before .before .before .before in let after-mark = after-push .before .before .before .before in
     let after-node-at = after-mark .before .before .before .before .before in let start = after-node-at .before .before .before .before .before in
     function-body _ (after-node-at .node-at .ensures) (after-push .push .ensures) _ (after-mark .mark .ensures) (after-declare .declare .ensures)
-    (after-reached .reached .ensures) (start .pre))
-    (search needs)
+    (after-reached .reached .ensures) (start .pre)) (search needs)
     -- same-length
     (λ c. let after-body = c .before .before .before .before .before .before .before .before in
     let after-declare = after-body .before .before .before .before .before .before .before .before in

@@ -4,8 +4,7 @@ use Rattle.compiler.proofs.GroupNameLaws.{GroupPart, names-begin, names
 use Rattle.compiler.proofs.outer.group_names.Tie as tie
 
 abbrev Inv-loop : tie.InvT-loop
-Inv-loop source s₀ table₀ from end top before at₀ k₀ now-top₀ r₀ s table at k now-top r =
-    (length s ≡ length s₀) × (length table ≡ length table₀) ×
+Inv-loop source s₀ table₀ from end top before at₀ k₀ now-top₀ r₀ s table at k now-top r = (length s ≡ length s₀) × (length table ≡ length table₀) ×
     ((y : ReadyGroup s₀ table₀ from end top before) → GroupPart source r₀ y s table at k now-top r)
 
 abbrev μ-loop : tie.MeasureT-loop

@@ -22,8 +22,7 @@ out c = let start = c .before .before .before in
     items-out (start .args .global) (start .args .source .now) (start .args .st) (c .loop .k) (start .pre) (c .loop .inv .1 (start .pre))
 
 pub items-spec : {M : Type 1} → Rattle.compiler.proofs.outer.items.Statement.statement M
-items-spec =
-    tie.close (tie.spec Inv-loop μ-loop (λ c. (refl, λ y. search items-begin)) (λ c. omega arith) (search needs) (λ c. omega arith)
+items-spec = tie.close (tie.spec Inv-loop μ-loop (λ c. (refl, λ y. search items-begin)) (λ c. omega arith) (search needs) (λ c. omega arith)
     (λ c. omega (arith, fit (search))) (λ c. omega (arith, fit (search))) (λ c κs. omega (arith, fit (search))) (λ c. omega (arith, fit (search)))
     (λ c. omega (arith, fit (search))) (λ c. omega arith) (λ c κs. omega (arith, fit (search))) (λ c. omega arith) (search needs) (search needs)
     (λ c _. c .before .entry2 .ensures .1) (λ c. omega (arith, fit (search))) (λ c. omega (arith, fit (search))) (λ c. omega (arith, fit (search)))

@@ -10,8 +10,7 @@ Inv-loop source s₀ table₀ base end left strings text₀ at₀ l₀ s table t
     × ((y : ReadyProgram s₀ table₀ base end left strings (l₀ .done)) → ProgramPart source text₀ (l₀ .done) y s table text at l)
 
 pub program-spec : {M : Type 1} → Rattle.compiler.proofs.program.program.Statement.statement M
-program-spec =
-    tie.close (tie.spec Inv-loop (λ source s₀ table₀ base end left strings text₀ at₀ l₀ s table text at l. end - at)
+program-spec = tie.close (tie.spec Inv-loop (λ source s₀ table₀ base end left strings text₀ at₀ l₀ s table text at l. end - at)
     (λ c. (refl, refl, refl, λ y. search program-begin)) (λ c. omega arith) (search needs) (λ c. omega arith) (λ c. omega arith) (search needs)
     (λ c. omega arith)
     -- declaration-requires
@@ -31,5 +30,4 @@ program-spec =
       λ y. program-next _ _ _
           (after-loop-test .loop-test .taken) (after-entry .entry .ensures .0) refl (after-entry2 .entry2 .ensures .0) y (after-loop .loop .inv .3 y)
           (after-declaration .declaration .ensures),
-    ))
-    (search needs) (search needs) (search needs) (λ c. search program-end))
+    )) (search needs) (search needs) (search needs) (λ c. search program-end))

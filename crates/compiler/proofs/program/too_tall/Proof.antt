@@ -4,5 +4,4 @@ use Rattle.compiler.proofs.FunctionLists.{tall-new, tall-old, tall-low}
 use Rattle.compiler.proofs.program.too_tall.Tie as tie
 
 pub too-tall-spec : {M : Type 1} → Rattle.compiler.proofs.program.too_tall.Statement.statement M
-too-tall-spec =
-    tie.close (tie.spec (search needs) (search needs) (λ c. search tall-new) (λ c. search tall-old) (λ c. search tall-low))
+too-tall-spec = tie.close (tie.spec (search needs) (search needs) (λ c. search tall-new) (λ c. search tall-old) (λ c. search tall-low))

@@ -5,8 +5,7 @@ use Rattle.compiler.proofs.scope.alike.Tie as tie
 pub alike-spec : {M : Type 1} → Rattle.compiler.proofs.scope.alike.Statement.statement M
 alike-spec =
     tie.close (tie.spec (λ c. omega arith) (λ c κs. omega arith) (λ c. search needs) (λ c. omega arith) (λ c κs. omega arith) (λ c. search needs)
-    (λ c. omega arith) (λ c. omega arith) (λ c. omega arith)
-    (λ c. let byte = c .before .before .before .before .shared-slice-known .given
+    (λ c. omega arith) (λ c. omega arith) (λ c. omega arith) (λ c. let byte = c .before .before .before .before .shared-slice-known .given
     (c .before .before .before .before .before .args .p + (c .before .before .before .before .before .args .n - 1)) in omega arith)
     -- returns-3
     (λ c. (let start = c .before .before .before .before .before .before in

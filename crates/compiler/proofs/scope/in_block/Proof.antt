@@ -10,8 +10,7 @@ Inv-loop source s top leaf width place last at₀ at =
 
 pub in-block-spec : {M : Type 1} → Rattle.compiler.proofs.scope.in_block.Statement.statement M
 unfolding found
-in-block-spec =
-    tie.close (tie.spec Inv-loop (λ source s top leaf width place last at₀ at. at)
+in-block-spec = tie.close (tie.spec Inv-loop (λ source s top leaf width place last at₀ at. at)
     (λ c. record { by = λ sc h. absurd (omega (arith, c .if1 .taken, shows-low h)) }) (search needs) (search needs) (search needs) (search needs)
     (λ c _. (c .entry2 .ensures .1, c .before .entry .ensures .1)) (λ c. (omega arith, λ sc h. left-all _ sc h)) (λ c. omega arith)
     (λ c κs. omega arith)

@@ -17,18 +17,16 @@ abbrev μ-search : tie.MeasureT-search
 
 pub lookup-spec : {M : Type 1} → Rattle.compiler.proofs.scope.lookup.Statement.statement M
 unfolding found
-lookup-spec =
-    tie.close (tie.spec Inv-loop (λ source s top leaf width place last at₀ at. at) Inv-search μ-search
+lookup-spec = tie.close (tie.spec Inv-loop (λ source s top leaf width place last at₀ at. at) Inv-search μ-search
     (λ c. (record { by = λ sc h. absurd (omega (arith, c .if1 .taken, shows-low h)) }, omega arith)) (search needs) (search needs) (search needs)
     (search needs) (λ c _. (c .entry2 .ensures .1, c .before .entry .ensures .1)) (λ c. (omega arith, λ sc h. left-all _ sc h))
     (λ c. (omega arith, c .search .inv .0, c .search .inv .1))
     -- returns-2
     (λ c. (
-      (let start = c .before .before .before .before .before .before .before .before .before in
-          record {
-            by = λ sc h. let l = c .before .loop .inv .2 sc h in sym (ap found (l .same ∙ at-outer _ (start .args .s .now) _ _ (l .shows)
-                (c .if2 .taken)));
-          }),
+      (let start = c .before .before .before .before .before .before .before .before .before in record {
+        by = λ sc h. let l = c .before .loop .inv .2 sc h in sym (ap found (l .same ∙ at-outer _ (start .args .s .now) _ _ (l .shows)
+            (c .if2 .taken)));
+      }),
       omega arith,
     ))
     (λ c. omega arith) (λ c κs. omega arith) (λ c. omega arith)

@@ -8,8 +8,7 @@ Inv-loop source p q n i₀ i =
     (i ≤ n) × (sameBytes (take n (drop p source)) (take n (drop q source)) ≡ sameBytes (take i (drop p source)) (take i (drop q source)))
 
 pub same-spec : {M : Type 1} → Rattle.compiler.proofs.scope.same.Statement.statement M
-same-spec =
-    tie.close (tie.spec Inv-loop (λ source p q n i₀ i. i) (λ c. (omega arith, refl)) (λ c. omega arith) (λ c. omega arith) (λ c. omega arith)
+same-spec = tie.close (tie.spec Inv-loop (λ source p q n i₀ i. i) (λ c. (omega arith, refl)) (λ c. omega arith) (λ c. omega arith) (λ c. omega arith)
     (λ c. omega arith) (λ c. omega arith)
     -- returns
     (λ c. (let after-loop = c .before .before .before .before in let start = after-loop .before in

@@ -3,5 +3,4 @@ use Rattle.laws.proofs.Basics.{needs}
 use Rattle.compiler.proofs.steps.again.Tie as tie
 
 pub again-spec : {M : Type 1} → Rattle.compiler.proofs.steps.again.Statement.statement M
-again-spec =
-    tie.close (tie.spec (λ c. search again-not) (search needs) (λ c. search again-so))
+again-spec = tie.close (tie.spec (λ c. search again-not) (search needs) (λ c. search again-so))

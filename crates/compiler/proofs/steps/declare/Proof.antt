@@ -33,5 +33,4 @@ declare-spec =
       omega arith,
       λ y. names-next _ _ (after-loop-test .loop-test .taken) (after-in-block .in-block .ensures) (after-entry .entry .ensures .0)
           (after-again .again .ensures) (c .before .before .push-name .ensures) refl y (after-loop .loop .inv .1 y),
-    ))
-    (search needs) (λ c. names-end _ _ (c .loop-test .left) (c .before .loop .inv .1)))
+    )) (search needs) (λ c. names-end _ _ (c .loop-test .left) (c .before .loop .inv .1)))

@@ -2,5 +2,4 @@ use Rattle.laws.proofs.Basics.{eq-eqb, ne-eqb}
 use Rattle.compiler.proofs.steps.jump_when.Tie as tie
 
 pub jump-when-spec : {M : Type 1} → Rattle.compiler.proofs.steps.jump_when.Statement.statement M
-jump-when-spec =
-    tie.close (tie.spec (λ c. rw (eq-eqb _ _ (c .if1 .taken))) (λ c. rw (ne-eqb _ _ (c .if1 .left))))
+jump-when-spec = tie.close (tie.spec (λ c. rw (eq-eqb _ _ (c .if1 .taken))) (λ c. rw (ne-eqb _ _ (c .if1 .left))))

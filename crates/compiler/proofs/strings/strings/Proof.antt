@@ -17,9 +17,7 @@ strings-spec =
     let loop = c .before .before .before .before .before .before .before .before .loop in (
       omega arith,
       omega (arith, oneIf-small (entry .result)),
-      listing-next
-          (c .before .before .before .before .before .before .before .loop-test .taken) (entry .ensures .0)
+      listing-next (c .before .before .before .before .before .before .before .loop-test .taken) (entry .ensures .0)
           (c .before .before .before .before .before .entry2 .ensures .0) (c .one-if .ensures) (c .before .before .before .string-symbol .ensures)
           (loop .inv .2),
-    ))
-    (search needs) (λ c. search listing-end))
+    )) (search needs) (λ c. search listing-end))

@@ -3,7 +3,5 @@ use Rattle.laws.proofs.Basics.{needs}
 use Rattle.machine.proofs.Registers.decode.Tie as tie
 
 pub decode-spec : {M : Type 1} → Rattle.machine.proofs.Registers.decode.Statement.statement M
-decode-spec =
-    tie.close
-    (tie.spec (search needs) (search needs) (search needs) (λ c. search decode-past) (search needs) (search needs) (search needs)
+decode-spec = tie.close (tie.spec (search needs) (search needs) (search needs) (λ c. search decode-past) (search needs) (search needs) (search needs)
     (λ c. search decode-long) (search needs) (search needs) (λ c. search decode-short))

@@ -8,6 +8,5 @@ returns-2 c =
     (c .before .before .before .sum .ensures) (c .before .before .sum2 .ensures) (c .before .if1 .left) (c .with-c .ensures)
 
 pub operand-spec : {M : Type 1} → Rattle.machine.proofs.Registers.operand.Statement.statement M
-operand-spec =
-    tie.close
+operand-spec = tie.close
     (tie.spec (search needs) (search needs) (search needs) (search needs) (search needs) (λ c. search operand-read) (search needs) returns-2)

@@ -6,8 +6,7 @@ use Rattle.machine.proofs.Registers.perform.Tie as tie
 
 pub perform-spec : {M : Type 1} → Rattle.machine.proofs.Registers.perform.Statement.statement M
 unfolding perform
-perform-spec =
-    tie.close
+perform-spec = tie.close
     (tie.spec (search needs) (search needs) (search needs) (search needs) (search needs) (search needs) (search needs) (search needs) (search needs)
     (λ c. search (needs, act-at, kept)) (λ c. search (act-at, kept-to)) (λ c. search (act-at, kept-to)) (search needs)
     (λ c. search (needs, act-at, kept)) (λ c. search (act-at, kept-finished)) (search needs) (λ c. search (needs, act-at, kept))

@@ -3,7 +3,6 @@ use Rattle.machine.proofs.Laws.{stepped, stepped-stop, sent-in, sent-fu
 use Rattle.machine.proofs.Registers.wrch.Tie as tie
 
 pub wrch-spec : {M : Type 1} → Rattle.machine.proofs.Registers.wrch.Statement.statement M
-wrch-spec =
-    tie.close
+wrch-spec = tie.close
     (tie.spec (search needs) (search needs) (search needs) (search needs) (λ c. stepped (sent-in _ _ _ (c .before .if1 .taken)) refl)
     (λ c. search (stepped-stop, sent-full)))

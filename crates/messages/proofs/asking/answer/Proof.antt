@@ -9,7 +9,6 @@ abbrev μ-loop : tie.MeasureT-loop
 μ-loop program terminal tries₀ t5 t6 tries = tries
 
 pub answer-spec : {M : Type 1} → Rattle.messages.proofs.asking.answer.Statement.statement M
-answer-spec =
-    tie.close
+answer-spec = tie.close
     (tie.spec Inv-loop μ-loop (λ c. refl) (search needs) (search needs) (search needs) (search needs) (search needs) (search needs) (search needs)
     (search needs) (search needs) (search needs) (search needs) (λ c. refl) (search needs))

@@ -9,7 +9,6 @@ abbrev μ-loop : tie.MeasureT-loop
 μ-loop source place column₀ i₀ column i = i
 
 pub column-of-spec : {M : Type 1} → Rattle.messages.proofs.excerpt.column_of.Statement.statement M
-column-of-spec =
-    tie.close
+column-of-spec = tie.close
     (tie.spec Inv-loop μ-loop (search needs) (search needs) (search needs) (search needs) (search needs) (search needs) (search needs) (search needs)
     (search needs))

@@ -9,7 +9,6 @@ abbrev μ-loop : tie.MeasureT-loop
 μ-loop source from end i₀ i = length source - i
 
 pub disguised-spec : {M : Type 1} → Rattle.messages.proofs.excerpt.disguised.Statement.statement M
-disguised-spec =
-    tie.close
+disguised-spec = tie.close
     (tie.spec Inv-loop μ-loop (search needs) (search needs) (search needs) (search needs) (search needs) (search needs) (search needs) (search needs)
     (search needs) (search needs))

@@ -9,6 +9,5 @@ abbrev μ-loop : tie.MeasureT-loop
 μ-loop source place i₀ i = length source - i
 
 pub line-end-spec : {M : Type 1} → Rattle.messages.proofs.excerpt.line_end.Statement.statement M
-line-end-spec =
-    tie.close
+line-end-spec = tie.close
     (tie.spec Inv-loop μ-loop (search needs) (search needs) (search needs) (search needs) (search needs) (search needs) (search needs))

@@ -13,8 +13,7 @@ abbrev μ-loop : tie.MeasureT-loop
 μ-loop source from end under row₀ n₀ i₀ row n i = length source - i
 
 pub show-row-spec : {M : Type 1} → Rattle.messages.proofs.excerpt.show_row.Statement.statement M
-show-row-spec =
-    tie.close
+show-row-spec = tie.close
     (tie.spec Inv-loop μ-loop (search needs) (search needs) (search needs) (search needs) (search needs) (search needs) (search needs)
     (λ c. search needs) (search needs) (λ c. taken _ (c .before .before .loop .row) (omega (arith, c .before .before .loop .inv))) (search needs)
     (search needs))

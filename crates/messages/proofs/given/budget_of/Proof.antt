@@ -9,7 +9,6 @@ abbrev μ-loop : tie.MeasureT-loop
 μ-loop digits value₀ i₀ value i = length digits - i
 
 pub budget-of-spec : {M : Type 1} → Rattle.messages.proofs.given.budget_of.Statement.statement M
-budget-of-spec =
-    tie.close
+budget-of-spec = tie.close
     (tie.spec Inv-loop μ-loop (search needs) (search needs) (search needs) (search needs) (search needs) (search needs) (search needs) (search needs)
     (search needs) (search needs) (search needs) (search needs) (search needs) (search needs) (search needs))

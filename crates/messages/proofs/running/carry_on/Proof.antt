@@ -15,13 +15,11 @@ loop-less : tie.Need-loop-less Inv-loop μ-loop
 loop-less c = ⊎-elim (λ w. omega arith) (λ w. omega arith) (c .before .before .before .before .before .before .before .if3 .came)
 
 loop-again : tie.Need-loop-again Inv-loop μ-loop
-loop-again c =
-    let by = c .before .before .before .before .before .before .before .if3 .came in
+loop-again c = let by = c .before .before .before .before .before .before .before .if3 .came in
     (⊎-elim (λ w. omega arith) (λ w. omega arith) by, ⊎-elim (λ w. omega arith) (λ w. omega arith) by, omega arith, omega arith)
 
 pub carry-on-spec : {M : Type 1} → Rattle.messages.proofs.running.carry_on.Statement.statement M
-carry-on-spec =
-    tie.close
+carry-on-spec = tie.close
     (tie.spec Inv-loop μ-loop (search needs) (search needs) (search needs) (search needs) (search needs) (search needs) (search needs) (search needs)
     (search needs) (search needs) (search needs) (search needs) (search needs) (search needs) (search needs) (search needs) (search needs)
     (search needs) (search needs) (search needs) (search needs) (search needs) (search needs) (search needs) (search needs) (search needs)

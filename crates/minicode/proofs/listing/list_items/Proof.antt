@@ -9,8 +9,7 @@ abbrev μ-loop : tie.MeasureT-loop
 μ-loop text from memory place₀ at₀ t10 place at = length text - place
 
 pub list-items-spec : {M : Type 1} → Rattle.minicode.proofs.listing.list_items.Statement.statement M
-list-items-spec =
-    tie.close
+list-items-spec = tie.close
     (tie.spec Inv-loop μ-loop (search needs) (search needs) (search needs) (search needs) (search needs) (search needs) (search needs) (search needs)
     (search needs) (search needs) (search needs) (search needs) (search needs) (search needs) (search needs) (search needs) (search needs)
     (search needs))

@@ -9,7 +9,6 @@ abbrev μ-loop : tie.MeasureT-loop
 μ-loop address words at₀ i₀ t5 at i = length words - i
 
 pub put-rest-spec : {M : Type 1} → Rattle.minicode.proofs.listing.put_rest.Statement.statement M
-put-rest-spec =
-    tie.close
+put-rest-spec = tie.close
     (tie.spec Inv-loop μ-loop (search needs) (search needs) (search needs) (search needs) (search needs) (search needs) (search needs) (search needs)
     (search needs) (search needs) (search needs))

@@ -4,8 +4,7 @@ use Rattle.symbols.proofs.Heads.{a-word}
 use Rattle.symbols.proofs.elements.word_at.Tie as tie
 
 kind-of-requires : tie.Need-kind-of-requires
-kind-of-requires c κs =
-    let start = c .before .before in let at = start .args .at in let text = start .args .text .now in
+kind-of-requires c κs = let start = c .before .before in let at = start .args .at in let text = start .args .text .now in
     (omega (arith, run-within word-run (drop at text), length-drop at text), start .pre .2)
 
 pub word-at-spec : {M : Type 1} → Rattle.symbols.proofs.elements.word_at.Statement.statement M

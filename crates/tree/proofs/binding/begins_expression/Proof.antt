@@ -4,8 +4,7 @@ use Rattle.tree.proofs.binding.begins_expression.Tie as tie
 
 pub begins-expression-spec : {M : Type 1} → Rattle.tree.proofs.binding.begins_expression.Statement.statement M
 unfolding member
-begins-expression-spec =
-    tie.close (tie.spec (λ c κs. tt) (λ c. arm expression _ (c .before .letter-of .ensures) (c .match .keys1))
+begins-expression-spec = tie.close (tie.spec (λ c κs. tt) (λ c. arm expression _ (c .before .letter-of .ensures) (c .match .keys1))
     (λ c. arm expression _ (c .before .letter-of .ensures) (c .match .keys2))
     (λ c. arm expression _ (c .before .letter-of .ensures) (c .match .keys3))
     (λ c. arm expression _ (c .before .letter-of .ensures) (c .match .keys4))

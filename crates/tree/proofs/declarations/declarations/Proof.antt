@@ -17,8 +17,7 @@ abbrev μ-loop : tie.MeasureT-loop
 μ-loop s₀ n turns₀ a₀ s turns a = turns
 
 pub declarations-spec : {M : Type 1} → Rattle.tree.proofs.declarations.declarations.Statement.statement M
-declarations-spec =
-    tie.close (tie.spec Inv-loop μ-loop (λ c. so-begins (c .before .pre) before-first) (λ c κs. omega arith) (λ _ _. tt)
+declarations-spec = tie.close (tie.spec Inv-loop μ-loop (λ c. so-begins (c .before .pre) before-first) (λ c κs. omega arith) (λ _ _. tt)
     (λ c κs. pair (omega arith) (declaration-positive _ (c .before .before .is-declaration .ensures) (c .before .if1 .taken))) (search needs)
     (λ c. omega arith)
     -- loop-again
@@ -26,11 +25,9 @@ declarations-spec =
     let kind-here = is-declaration .before in let in-loop = kind-here .before .before .before in many-turns _ _ _ _ before-next (in-loop .loop .inv)
     (kind-here .kind-here .ensures) (sym (is-declaration .is-declaration .ensures) ∙ if1 .if1 .taken) (
       declared .declared .ensures .0,
-      λ src l k.
-          declared .declared .ensures .1 src l k (sym (is-declaration .is-declaration .ensures) ∙ if1 .if1 .taken),
+      λ src l k. declared .declared .ensures .1 src l k (sym (is-declaration .is-declaration .ensures) ∙ if1 .if1 .taken),
     ) (declared .declared .kept .0) (omega
-    arith))
-    (search needs)
+    arith)) (search needs)
     -- returns
     (λ c. let is-declaration = c .before in let kind-here = is-declaration .before in let in-loop = kind-here .before .before .before in
     many-ends _ _ _ _ before-last (wordless no-program-words) refl (in-loop .loop .inv) (kind-here .kind-here .ensures)

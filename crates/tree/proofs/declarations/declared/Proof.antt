@@ -7,8 +7,7 @@ use Rattle.tree.proofs.declarations.declared.Tie as tie
 use Rattle.tree.proofs.Wholes.{leaves, _from_, _with_, _adding_, _setting_}
 
 pub declared-spec : {M : Type 1} → Rattle.tree.proofs.declarations.declared.Statement.statement M
-declared-spec =
-    tie.close (tie.spec (search needs) (search needs) (search needs)
+declared-spec = tie.close (tie.spec (search needs) (search needs) (search needs)
     -- declaration-requires
     (λ c κs. let begin-item = c .before .before .before in let expect = begin-item .before .before in
     let start = expect .before .before .before .before .before in

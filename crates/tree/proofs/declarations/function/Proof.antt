@@ -8,8 +8,7 @@ use Rattle.tree.proofs.declarations.function.Tie as tie
 use Rattle.tree.proofs.Wholes.{leaves, _writing_, _with_, _setting_}
 
 pub function-spec : {M : Type 1} → Rattle.tree.proofs.declarations.function.Statement.statement M
-function-spec =
-    tie.close (tie.spec (λ c κs. search needs) (λ c κs. c .before .before .before .before .pre) (λ c κs. search needs)
+function-spec = tie.close (tie.spec (λ c κs. search needs) (λ c κs. c .before .before .before .before .pre) (λ c κs. search needs)
     -- a-name-requires
     (λ c κs. ready-takes (c .before .before .before .before .before .begin-item .ensures .0)
     (c .before .before .before .before .before .begin-item .kept .0)
@@ -22,8 +21,7 @@ function-spec =
     -- parameters-requires
     (λ c κs. let expect = c .before in let a-name = expect .before .before .before .before in
     let begin-item = a-name .before .before .before .before .before .before in let start = begin-item .before .before .before .before .before in
-    ready-leaves (expect .expect .ensures .0) refl refl
-    (ready-leaves (a-name .a-name .ensures .0) (a-name .a-name .kept .0) refl
+    ready-leaves (expect .expect .ensures .0) refl refl (ready-leaves (a-name .a-name .ensures .0) (a-name .a-name .kept .0) refl
     (ready-takes (begin-item .begin-item .ensures .0) (begin-item .begin-item .kept .0) (start .pre))))
     (λ c κs. search needs) (λ c κs. search needs) (λ c κs. search needs)
     -- cast-function-body
@@ -31,16 +29,14 @@ function-spec =
     let expect = parameters .before .before in let a-name = expect .before .before .before .before in
     let begin-item = a-name .before .before .before .before .before .before in let start = begin-item .before .before .before .before .before in
     let small = size-small _ (minus .minus .ensures) (free-of3 .free-of3 .ensures)
-    (ready-leaves (parameters .parameters .ensures .0) (parameters .parameters .kept .0) refl
-    (ready-leaves (expect .expect .ensures .0) refl refl
+    (ready-leaves (parameters .parameters .ensures .0) (parameters .parameters .kept .0) refl (ready-leaves (expect .expect .ensures .0) refl refl
     (ready-leaves (a-name .a-name .ensures .0) (a-name .a-name .kept .0) refl
     (ready-takes (begin-item .begin-item .ensures .0) (begin-item .begin-item .kept .0) (start .pre))))) in omega arith)
     -- function-body-requires
     (λ c κs. let parameters = c .before .before .before .before .before .before .before .before in let expect = parameters .before .before in
     let a-name = expect .before .before .before .before in let begin-item = a-name .before .before .before .before .before .before in
     let start = begin-item .before .before .before .before .before in
-    ready-leaves (parameters .parameters .ensures .0) (parameters .parameters .kept .0) refl
-    (ready-leaves (expect .expect .ensures .0) refl refl
+    ready-leaves (parameters .parameters .ensures .0) (parameters .parameters .kept .0) refl (ready-leaves (expect .expect .ensures .0) refl refl
     (ready-leaves (a-name .a-name .ensures .0) (a-name .a-name .kept .0) refl
     (ready-takes (begin-item .begin-item .ensures .0) (begin-item .begin-item .kept .0) (start .pre)))))
     -- set-size-requires
@@ -50,8 +46,7 @@ function-spec =
     let begin-item = a-name .before .before .before .before .before .before in let free-of = begin-item .before .before in
     let start = free-of .before .before .before in
     pair (ready-leaves (function-body .function-body .ensures .0) (function-body .function-body .kept .0) refl
-    (ready-leaves (parameters .parameters .ensures .0) (parameters .parameters .kept .0) refl
-    (ready-leaves (expect .expect .ensures .0) refl refl
+    (ready-leaves (parameters .parameters .ensures .0) (parameters .parameters .kept .0) refl (ready-leaves (expect .expect .ensures .0) refl refl
     (ready-leaves (a-name .a-name .ensures .0) (a-name .a-name .kept .0) refl
     (ready-takes (begin-item .begin-item .ensures .0) (begin-item .begin-item .kept .0) (start .pre))))))
     (item-low (free-of .free-of .ensures) (ready-part (start .pre) refl)))
@@ -69,8 +64,7 @@ function-spec =
     let a-name = expect .before .before .before .before in let free-of2 = a-name .before .before in
     let begin-item = free-of2 .before .before .before .before in let free-of = begin-item .before .before in
     let start = free-of .before .before .before in let same = parameters .parameters .kept .0 ∙ a-name .a-name .kept .0
-    ∙ begin-item .begin-item .kept .0 in leaves
-    ((λ src l b c d f p z. function-here src _ (free-of .free-of .ensures) (low (start .pre)) b
+    ∙ begin-item .begin-item .kept .0 in leaves ((λ src l b c d f p z. function-here src _ (free-of .free-of .ensures) (low (start .pre)) b
     (freed _ (free-of2 .free-of2 .ensures) (begin-item .begin-item .kept .0)) c d f
     (for-size _ _ (minus .minus .ensures) (free-of3 .free-of3 .ensures) (free-of4 .free-of4 .ensures) same)
     (λ name names q. p .1 name names (ap (λ (z : ℕ). freeOf z (parameters .parameters .result)) same ∙ q)) (p .0) z) writing

@@ -6,8 +6,7 @@ use Rattle.tree.proofs.Rooms.{left, room-left, _plus_}
 use Rattle.tree.proofs.declarations.functions.Tie as tie
 
 returns : tie.Need-returns
-returns c =
-    let after-further-functions = c .before .before in let after-function = after-further-functions .before .before .before .before in
+returns c = let after-further-functions = c .before .before in let after-function = after-further-functions .before .before .before .before in
     pair (room-left (left (after-function .function .ensures .0) plus (after-further-functions .further-functions .ensures .0)) refl)
     (λ src l. functions-read src (l .count) (after-function .function .ensures .1 src l)
     (after-further-functions .further-functions .ensures .1 src (lies-still l (after-function .function .ensures .0 .kept))))

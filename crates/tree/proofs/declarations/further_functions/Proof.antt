@@ -11,16 +11,14 @@ use Rattle.tree.proofs.Choices.{at-any}
 use Rattle.tree.proofs.declarations.further_functions.Tie as tie
 
 abbrev Inv-loop : tie.InvT-loop
-Inv-loop s₀ n turns₀ a₀ s turns a =
-    SoFar (Before encodeFunctions) (manyUpTo turns₀ [] (λ kind. eqb kind K.AND) G.andFunction)
+Inv-loop s₀ n turns₀ a₀ s turns a = SoFar (Before encodeFunctions) (manyUpTo turns₀ [] (λ kind. eqb kind K.AND) G.andFunction)
     (manyUpTo turns [] (λ kind. eqb kind K.AND) G.andFunction) s₀ s n a₀ a
 
 abbrev μ-loop : tie.MeasureT-loop
 μ-loop s₀ n turns₀ a₀ s turns a = turns
 
 pub further-functions-spec : {M : Type 1} → Rattle.tree.proofs.declarations.further_functions.Statement.statement M
-further-functions-spec =
-    tie.close (tie.spec Inv-loop μ-loop (λ c. so-begins (c .before .pre) before-first) (λ c κs. omega arith) (search needs)
+further-functions-spec = tie.close (tie.spec Inv-loop μ-loop (λ c. so-begins (c .before .pre) before-first) (λ c κs. omega arith) (search needs)
     (λ c. many-ends _ _ _ _ before-last (wordless no-function-words) refl (c .before .before .before .before .loop .inv)
     (c .before .kind-here .ensures) (ne-eqb _ _ (c .if1 .taken)))
     (λ c κs. omega arith) (λ c κs. ready-leaves (c .before .expect .ensures .0) refl refl (omega arith)) (search needs) (λ c. omega arith)

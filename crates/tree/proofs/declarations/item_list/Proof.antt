@@ -6,14 +6,12 @@ use Rattle.tree.proofs.declarations.item_list.Tie as tie
 use Rattle.tree.proofs.Wholes.{leaves, _from_, _with_}
 
 pub item-list-spec : {M : Type 1} → Rattle.tree.proofs.declarations.item_list.Statement.statement M
-item-list-spec =
-    tie.close (tie.spec (search needs)
+item-list-spec = tie.close (tie.spec (search needs)
     (λ c κs. pair (ready-leaves (c .before .expect .ensures .0) refl refl (c .before .before .before .before .pre .0)) (omega arith))
     -- further-items-requires
     (λ c κs. let one-item = c .before .before .before in let expect = one-item .before .before in let start = expect .before .before .before in
     pair (ready-leaves (one-item .one-item .ensures .0) (one-item .one-item .kept .0) refl
-    (ready-leaves (expect .expect .ensures .0) refl refl (start .pre .0))) (omega arith))
-    (search needs)
+    (ready-leaves (expect .expect .ensures .0) refl refl (start .pre .0))) (omega arith)) (search needs)
     -- returns
     (λ c. let further-items = c .before .before in let one-item = further-items .before .before .before .before in
     let expect = one-item .before .before in leaves

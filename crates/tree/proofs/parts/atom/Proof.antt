@@ -14,5 +14,4 @@ atom-spec =
     (λ c. false-read (c .before .before .before .before .before .value-here .ensures) (c .before .before .before .before .match .keys4)
     (c .before .before .leaf4 .ensures)) (search needs)
     (λ c. name-read (c .before .before .before .before .before .value-here .ensures) (c .before .before .before .before .match .keys5)
-    (c .before .before .leaf5 .ensures)) (search needs)
-    (λ c. other-read (c .before .before .match .rest) (c .refuse .ensures)))
+    (c .before .before .leaf5 .ensures)) (search needs) (λ c. other-read (c .before .before .match .rest) (c .refuse .ensures)))

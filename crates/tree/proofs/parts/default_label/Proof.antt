@@ -7,8 +7,7 @@ use Rattle.tree.proofs.parts.default_label.Tie as tie
 use Rattle.tree.proofs.Wholes.{leaves, _from_, _with_, _adding_, _setting_}
 
 pub default-label-spec : {M : Type 1} → Rattle.tree.proofs.parts.default_label.Statement.statement M
-default-label-spec =
-    tie.close (tie.spec (search needs) (search needs) (search needs) (search needs) (search needs)
+default-label-spec = tie.close (tie.spec (search needs) (search needs) (search needs) (search needs) (search needs)
     -- expect-requires-2
     (λ c κs. let begin-item = c .before .before .before .before .before in let expect = begin-item .before .before in
     let start = expect .before .before .before .before .before .before .before in
@@ -17,18 +16,15 @@ default-label-spec =
     -- node-requires
     (λ c κs. let expect2 = c .before in let begin-item = expect2 .before .before .before .before .before .before in
     let expect = begin-item .before .before in let start = expect .before .before .before .before .before .before .before in
-    ready-leaves (expect2 .expect2 .ensures .0) refl refl
-    (ready-takes (begin-item .begin-item .ensures .0) (begin-item .begin-item .kept .0)
+    ready-leaves (expect2 .expect2 .ensures .0) refl refl (ready-takes (begin-item .begin-item .ensures .0) (begin-item .begin-item .kept .0)
     (ready-leaves (expect .expect .ensures .0) refl refl (start .pre))))
     -- set-size-requires
     (λ c κs. let node = c .before .before .before in let expect2 = node .before .before in
     let begin-item = expect2 .before .before .before .before .before .before in let expect = begin-item .before .before in
     let free-of = expect .before .before .before .before in let start = free-of .before .before .before in
-    pair (ready-takes (node .node .ensures .0) (node .node .kept .0)
-    (ready-leaves (expect2 .expect2 .ensures .0) refl refl
+    pair (ready-takes (node .node .ensures .0) (node .node .kept .0) (ready-leaves (expect2 .expect2 .ensures .0) refl refl
     (ready-takes (begin-item .begin-item .ensures .0) (begin-item .begin-item .kept .0)
-    (ready-leaves (expect .expect .ensures .0) refl refl (start .pre))))) (item-low (free-of .free-of .ensures) (start .pre)))
-    (search needs)
+    (ready-leaves (expect .expect .ensures .0) refl refl (start .pre))))) (item-low (free-of .free-of .ensures) (start .pre))) (search needs)
     -- returns
     (λ c. let set-size = c .before .before in let node = set-size .before .before .before .before in let expect2 = node .before .before in
     let free-of2 = expect2 .before .before in let begin-item = free-of2 .before .before .before .before in let expect = begin-item .before .before in

@@ -16,11 +16,9 @@ abbrev μ-loop : tie.MeasureT-loop
 μ-loop s₀ n turns₀ a₀ s turns a = turns
 
 pub further-names-spec : {M : Type 1} → Rattle.tree.proofs.parts.further_names.Statement.statement M
-further-names-spec =
-    tie.close (tie.spec Inv-loop μ-loop (λ c. so-begins (c .before .pre) before-first) (λ c κs. omega arith) (search needs)
+further-names-spec = tie.close (tie.spec Inv-loop μ-loop (λ c. so-begins (c .before .pre) before-first) (λ c κs. omega arith) (search needs)
     (λ c. many-ends _ _ _ _ before-last (wordless no-name-words) refl (c .before .before .before .before .loop .inv) (c .before .kind-here .ensures)
-    (ne-eqb _ _ (c .if1 .taken)))
-    (λ c κs. omega arith) (λ c κs. omega arith) (search needs) (λ c. omega arith)
+    (ne-eqb _ _ (c .if1 .taken))) (λ c κs. omega arith) (λ c κs. omega arith) (search needs) (λ c. omega arith)
     -- loop-again
     (λ c. let a-name = c .before .before in let expect = a-name .before .before in let if1 = expect .before .before in let kind-here = if1 .before in
     let in-loop = kind-here .before .before .before in

@@ -10,20 +10,17 @@ negative-spec =
     let after-place-here = after-kind-here .before .before .before .before in
     negative-number _ (after-place-here .place-here .ensures) (after-place-here .before .before .if1 .left)
     (after-kind-here .before .before .expect .ensures) (after-kind-here .kind-here .ensures) (after-match .before .value-here .ensures)
-    (after-match .match .keys1) (c .before .before .negated .ensures))
-    (search needs)
+    (after-match .match .keys1) (c .before .before .negated .ensures)) (search needs)
     (λ c. let after-match = c .before .before .before .before in let after-kind-here = after-match .before .before .before in
     let after-place-here = after-kind-here .before .before .before .before in
     negative-true _ (after-place-here .place-here .ensures) (after-place-here .before .before .if1 .left)
     (after-kind-here .before .before .expect .ensures) (after-kind-here .kind-here .ensures) (after-match .before .value-here .ensures)
-    (after-match .match .keys2) (c .before .before .negated2 .ensures))
-    (search needs)
+    (after-match .match .keys2) (c .before .before .negated2 .ensures)) (search needs)
     (λ c. let after-match = c .before .before .before .before in let after-kind-here = after-match .before .before .before in
     let after-place-here = after-kind-here .before .before .before .before in
     negative-false _ (after-place-here .place-here .ensures) (after-place-here .before .before .if1 .left)
     (after-kind-here .before .before .expect .ensures) (after-kind-here .kind-here .ensures) (after-match .before .value-here .ensures)
-    (after-match .match .keys3) (c .before .before .negated3 .ensures))
-    (search needs)
+    (after-match .match .keys3) (c .before .before .negated3 .ensures)) (search needs)
     (λ c. let after-match = c .before .before .before .before in let after-kind-here = after-match .before .before .before in
     let after-place-here = after-kind-here .before .before .before .before in
     negative-name _ (after-place-here .place-here .ensures) (after-place-here .before .before .if1 .left)

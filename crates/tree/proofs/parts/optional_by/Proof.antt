@@ -13,6 +13,5 @@ returns c =
     (after-constant .constant .ensures .1 src l))
 
 pub optional-by-spec : {M : Type 1} → Rattle.tree.proofs.parts.optional_by.Statement.statement M
-optional-by-spec =
-    tie.close (tie.spec (search needs) (search needs) (search needs) (search needs) returns (search needs)
+optional-by-spec = tie.close (tie.spec (search needs) (search needs) (search needs) (search needs) returns (search needs)
     (λ c. (leaves-all (c .before .before .before .before .pre), λ src l. no-by src _ (c .before .kind-here .ensures src l) (c .if1 .left))))

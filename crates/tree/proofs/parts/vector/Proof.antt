@@ -6,8 +6,7 @@ use Rattle.tree.proofs.parts.vector.Tie as tie
 use Rattle.tree.proofs.Wholes.{leaves, _from_, _with_, _adding_}
 
 pub vector-spec : {M : Type 1} → Rattle.tree.proofs.parts.vector.Statement.statement M
-vector-spec =
-    tie.close (tie.spec (search needs) (search needs) (search needs) (search needs)
+vector-spec = tie.close (tie.spec (search needs) (search needs) (search needs) (search needs)
     -- cast-node
     (λ c. let minus = c .before .before .before .before .before .before .before in let free-of = minus .before in
     let start = free-of .before .before .before in let small = size-small _ (minus .minus .ensures) (free-of .free-of .ensures) (start .pre) in
@@ -16,8 +15,7 @@ vector-spec =
     (λ c κs. let constant = c .before .before .before in let expect = constant .before .before in
     let start = expect .before .before .before .before .before .before in
     ready-leaves (constant .constant .ensures .0) (constant .constant .kept .0) refl
-    (ready-leaves (expect .expect .ensures .0) refl refl (start .pre)))
-    (search needs)
+    (ready-leaves (expect .expect .ensures .0) refl refl (start .pre))) (search needs)
     -- returns
     (λ c. let node = c .before .before in let constant = node .before .before .before .before in let expect = constant .before .before in
     let minus = expect .before .before in let free-of = minus .before in

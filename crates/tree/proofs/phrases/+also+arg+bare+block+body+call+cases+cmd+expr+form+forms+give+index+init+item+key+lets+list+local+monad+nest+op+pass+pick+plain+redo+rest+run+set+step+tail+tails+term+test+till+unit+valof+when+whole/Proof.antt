@@ -22,15 +22,13 @@ use Rattle.tree.proofs.Asked.{knowing}
 pub +also+arg+bare+block+body+call+cases+cmd+expr+form+forms+give+index+init+item+key+lets+list+local+monad+nest+op+pass+pick+plain+redo+rest+run+set+step+tail+tails+term+test+till+unit+valof+when+whole-spec :
     {M : Type 1} → statement M
 +also+arg+bare+block+body+call+cases+cmd+expr+form+forms+give+index+init+item+key+lets+list+local+monad+nest+op+pass+pick+plain+redo+rest+run+set+step+tail+tails+term+test+till+unit+valof+when+whole-spec =
-    close
-    (also-rank .measure) (arg-rank .measure) (bare-rank .measure) (block-rank .measure) (body-rank .measure) (call-rank .measure)
+    close (also-rank .measure) (arg-rank .measure) (bare-rank .measure) (block-rank .measure) (body-rank .measure) (call-rank .measure)
     (cases-rank .measure) (cmd-rank .measure) (expr-rank .measure) (form-rank .measure) (forms-rank .measure) (give-rank .measure)
     (index-rank .measure) (init-rank .measure) (item-rank .measure) (key-rank .measure) (lets-rank .measure) (list-rank .measure)
     (local-rank .measure) (monad-rank .measure) (nest-rank .measure) (op-rank .measure) (pass-rank .measure) (pick-rank .measure)
     (plain-rank .measure) (redo-rank .measure) (rest-rank .measure) (run-rank .measure) (set-rank .measure) (step-rank .measure) (tail-rank .measure)
     (tails-rank .measure) (term-rank .measure) (test-rank .measure) (till-rank .measure) (unit-rank .measure) (valof-rank .measure)
-    (when-rank .measure) (whole-rank .measure)
-    (λ t. knowing (also-cs t .callees) _ (also-ok t)) (λ t. knowing (arg-cs t .callees) _ (arg-ok t))
+    (when-rank .measure) (whole-rank .measure) (λ t. knowing (also-cs t .callees) _ (also-ok t)) (λ t. knowing (arg-cs t .callees) _ (arg-ok t))
     (λ t. knowing (bare-cs t .callees) _ (bare-ok t)) (λ t. knowing (block-cs t .callees) _ (block-ok t))
     (λ t. knowing (body-cs t .callees) _ (body-ok t)) (λ t. knowing (call-cs t .callees) _ (call-ok t))
     (λ t. knowing (cases-cs t .callees) _ (cases-ok t)) (λ t. knowing (cmd-cs t .callees) _ (cmd-ok t))

@@ -3,9 +3,7 @@ use Rattle.tree.proofs.Helpers.{room-is, item-begun, adds-refused, refu
 use Rattle.tree.proofs.scratch.begin_item.Tie as tie
 
 pub begin-item-spec : {M : Type 1} → Rattle.tree.proofs.scratch.begin_item.Statement.statement M
-begin-item-spec =
-    tie.close (tie.spec (search needs)
-    (λ c. omega (arith, room-is (c .before .before .before .pre) (c .before .r .given .1)))
+begin-item-spec = tie.close (tie.spec (search needs) (λ c. omega (arith, room-is (c .before .before .before .pre) (c .before .r .given .1)))
     (λ c. omega (arith, room-is (c .before .before .before .pre) (c .before .r .given .1)))
     (λ c. omega (arith, room-is (c .before .before .before .pre) (c .before .r .given .1)))
     (λ c. omega (arith, room-is (c .before .before .before .pre) (c .before .r .given .1)))

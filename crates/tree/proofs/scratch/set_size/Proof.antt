@@ -11,9 +11,7 @@ returns c = (
 )
 
 pub set-size-spec : {M : Type 1} → Rattle.tree.proofs.scratch.set_size.Statement.statement M
-set-size-spec =
-    tie.close
-    (tie.spec (search needs) (search needs) (search needs)
+set-size-spec = tie.close (tie.spec (search needs) (search needs) (search needs)
     (λ c. omega (arith, room-is (c .before .before .before .before .before .before .before .pre .0) (c .before .before .before .before .r .given .1)))
     (λ c. omega (arith, room-is (c .before .before .before .before .before .before .before .pre .0) (c .before .before .before .before .r .given .1)))
     (λ c. omega (arith, room-is (c .before .before .before .before .before .before .before .pre .0) (c .before .before .before .before .r .given .1)))

@@ -4,9 +4,7 @@ use Rattle.language.specs.Reader.{valueAt}
 use Rattle.tree.proofs.scratch.value_here.Tie as tie
 
 pub value-here-spec : {M : Type 1} → Rattle.tree.proofs.scratch.value_here.Statement.statement M
-value-here-spec =
-    tie.close (tie.spec (search needs) (search needs) (search needs) (search needs) (search needs) (search needs)
+value-here-spec = tie.close (tie.spec (search needs) (search needs) (search needs) (search needs) (search needs) (search needs)
     (λ c. λ src l. record {
       here = λ at free e _. entry-here (valueAt src) (c .before .before .before .r .given .1) (l .values _ (c .before .if1 .taken)) at free e;
-    })
-    (λ c. λ src l. search here-past) (λ c. λ src l. search here-refused))
+    }) (λ c. λ src l. search here-past) (λ c. λ src l. search here-refused))

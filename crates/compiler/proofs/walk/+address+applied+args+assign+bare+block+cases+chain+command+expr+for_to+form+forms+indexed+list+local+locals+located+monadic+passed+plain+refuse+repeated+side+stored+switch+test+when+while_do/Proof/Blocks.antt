@@ -13,13 +13,11 @@ use Rattle.compiler.proofs.Expressions.{ready-at, left-at}
 use cycle.Proof.Ranks.{rank, at, below, calls, both, three, four, six, args, block, command, list, local, locals}
 
 abbrev block-cs : ℕ → cycle.Lts-block.Claims
-block-cs t =
-    six (steps.node_at.Reads.Asked, steps.node_at.Reads.Learnt) (proofs.scope.push.Reads.Asked, proofs.scope.push.Reads.Learnt)
+block-cs t = six (steps.node_at.Reads.Asked, steps.node_at.Reads.Learnt) (proofs.scope.push.Reads.Asked, proofs.scope.push.Reads.Learnt)
     (steps.marked.Reads.Asked, steps.marked.Reads.Learnt) (calls locals t) (steps.set_at.Reads.Asked, steps.set_at.Reads.Learnt) (calls list t)
 
 pub block-ok : {M : Type 1} (t : ℕ) → cycle.Lts-block.Closed (block-cs t) (at block t) (rank block .post) M
-block-ok t =
-    cycle.Lts-block.spec (block-cs t) (at block t) (rank block .post) (λ c κs. omega arith) (λ c. omega arith)
+block-ok t = cycle.Lts-block.spec (block-cs t) (at block t) (rank block .post) (λ c κs. omega arith) (λ c. omega arith)
     (λ c κs. let start = c .before .before .before .before .before .before .before in
     (block-room _ (c .before .before .node-at .ensures) (start .pre .1 .1 .is) refl (start .pre .1 .0) .1, omega arith, omega arith))
     -- marked-requires
@@ -64,17 +62,16 @@ list-ok t =
     both (omega arith) (list-part _ _ _ (after-loop-test .loop-test .taken) (c .before .before .entry .ensures .0) refl (start .pre .1)
     (after-loop .loop .inv .2 (start .pre .1))))
     (λ c. omega arith)
-    (λ c. (omega arith, omega arith, λ y. search (list-next, c .before .before .before .before .before .before .before .before .before .before .loop .inv .2)))
+    (λ c. let in-loop = c .before .before .before .before .before .before .before .before .before .before .loop in
+    (omega arith, omega arith, λ y. search (list-next, in-loop .inv .2)))
     (λ c. omega arith) (λ c. omega arith) (λ c. search list-end)
 
 abbrev local-cs : ℕ → cycle.Lts-local.Claims
-local-cs t =
-    four (steps.node_at.Reads.Asked, steps.node_at.Reads.Learnt) (steps.vector.Reads.Asked, steps.vector.Reads.Learnt) (calls args t)
+local-cs t = four (steps.node_at.Reads.Asked, steps.node_at.Reads.Learnt) (steps.vector.Reads.Asked, steps.vector.Reads.Learnt) (calls args t)
     (steps.declare.Reads.Asked, steps.declare.Reads.Learnt)
 
 pub local-ok : {M : Type 1} (t : ℕ) → cycle.Lts-local.Closed (local-cs t) (at local t) (rank local .post) M
-local-ok t =
-    cycle.Lts-local.spec (local-cs t) (at local t) (rank local .post) (λ c κs. omega arith) (λ c κs. search needs) (λ c. omega arith)
+local-ok t = cycle.Lts-local.spec (local-cs t) (at local t) (rank local .post) (λ c κs. omega arith) (λ c κs. search needs) (λ c. omega arith)
     (λ c. omega arith) (λ c. c .before .before .before .before .vector .ensures) (λ c. omega arith) (λ c κs. search (needs, values-args))
     (λ c κs. search values-names)
     -- add-t25
@@ -106,15 +103,13 @@ abbrev locals-μ-loop : cycle.Lts-locals.MeasureT-loop
 locals-μ-loop source s₀ from end text₀ here at₀ r₀ s text at r = end - at
 
 pub locals-ok : {M : Type 1} (t : ℕ) → cycle.Lts-locals.Closed (locals-cs t) (at locals t) (rank locals .post) M
-locals-ok t =
-    cycle.Lts-locals.spec (locals-cs t) (at locals t) (rank locals .post) locals-Inv-loop locals-μ-loop (λ c. search (needs, locals-begin))
+locals-ok t = cycle.Lts-locals.spec (locals-cs t) (at locals t) (rank locals .post) locals-Inv-loop locals-μ-loop (λ c. search (needs, locals-begin))
     (λ c. omega arith) (λ c κs. omega arith) (λ c. omega (arith, c .entry .ensures .1)) (λ c κs. omega arith)
     -- local-requires
     (λ c κs. let after-set-at = c .before .before .before in let after-entry = after-set-at .before in
     let after-loop-test = after-entry .before .before in let after-loop = after-loop-test .before in
     let start = after-loop .before .before .before .before in
-    both (omega (arith, start .pre .0, left-at))
-    (ready-at (after-set-at .set-at .ensures)
+    both (omega (arith, start .pre .0, left-at)) (ready-at (after-set-at .set-at .ensures)
     (locals-part _ _ (after-loop-test .loop-test .taken) (after-entry .entry .ensures .0) refl (start .pre .1)
     (after-loop .loop .inv .2 (start .pre .1)))))
     (λ c. omega arith)

@@ -23,20 +23,17 @@ applied-start t c = c .before .before .before .before .before .before .before .b
 applied-read : (t : ℕ) (c : cycle.Lts-applied.After-entry2 (applied-cs t) (at applied t) (rank applied .post))
     → let args = applied-start t c .args in LastRead (args .s .now) (args .middle) (args .end) (c .entry2 .result)
     (c .before .before .before .before .before .before .minus .result) (c .before .before .before .minus2 .result)
-applied-read t c =
-    let after-minus2 = c .before .before .before in let after-minus = after-minus2 .before .before .before in
+applied-read t c = let after-minus2 = c .before .before .before in let after-minus = after-minus2 .before .before .before in
     last-read (after-minus .before .if1 .left) (c .before .minus3 .ensures) (c .entry2 .ensures .0) (after-minus .minus .ensures)
     (after-minus2 .before .entry .ensures .0) (after-minus2 .minus2 .ensures)
 
 applied-few : (t : ℕ) (c : cycle.Lts-applied.After-count (applied-cs t) (at applied t) (rank applied .post))
     → c .count .result < applied-start t (c .before .before .before) .args .end
-applied-few t c =
-    let r = c .before .before .before in
+applied-few t c = let r = c .before .before .before in
     call-few (applied-read t r) (c .before .before .if2 .left) (c .count .ensures) (applied-start t r .pre .1)
 
 pub applied-ok : {M : Type 1} (t : ℕ) → cycle.Lts-applied.Closed (applied-cs t) (at applied t) (rank applied .post) M
-applied-ok t =
-    cycle.Lts-applied.spec (applied-cs t) (at applied t) (rank applied .post) (λ c κs. search (needs, primary-part)) (λ c. omega arith)
+applied-ok t = cycle.Lts-applied.spec (applied-cs t) (at applied t) (rank applied .post) (λ c κs. search (needs, primary-part)) (λ c. omega arith)
     (λ c. omega arith) (λ c. search primary-gave) (λ c κs. omega arith) (λ c κs. omega arith) (λ c κs. omega arith) (λ c κs. omega arith)
     (λ c κs. omega arith)
     (λ c κs. let start = applied-start t (search) in let r = applied-read t (search) in both (omega (arith, start .pre .0)) (search (index-left r)))
@@ -104,32 +101,27 @@ args-ok t =
     let after-raised = after-expr .before in let after-entry = after-raised .before .before .before in
     let after-loop-test = after-entry .before .before in let after-loop = after-loop-test .before in (
       after-expr .expr .kept .1 .0 ∙ after-loop .loop .inv .0,
-      c .before .before .keep .kept .0 ∙ after-expr .expr .kept .1 .1 .1 .0
-          ∙ after-loop .loop .inv .1,
+      c .before .before .keep .kept .0 ∙ after-expr .expr .kept .1 .1 .1 .0 ∙ after-loop .loop .inv .1,
       λ y. args-next _ _ _ (after-loop-test .loop-test .taken) (after-entry .entry .ensures .0) refl
           (gave-at _ (after-raised .raised .ensures) (after-expr .expr .ensures)) (c .before .before .keep .ensures) y (after-loop .loop .inv .2 y),
     ))
     (λ c. omega arith) (λ c. omega arith) (λ c. args-end _ _ _ (c .loop-test .left) (c .before .loop .inv .2))
 
 abbrev indexed-cs : ℕ → cycle.Lts-indexed.Claims
-indexed-cs t =
-    four (steps.keep.Reads.Asked, steps.keep.Reads.Learnt) (steps.raised.Reads.Asked, steps.raised.Reads.Learnt) (calls expr t)
+indexed-cs t = four (steps.keep.Reads.Asked, steps.keep.Reads.Learnt) (steps.raised.Reads.Asked, steps.raised.Reads.Learnt) (calls expr t)
     (steps.index_end.Reads.Asked, steps.index_end.Reads.Learnt)
 
 pub indexed-ok : {M : Type 1} (t : ℕ) → cycle.Lts-indexed.Closed (indexed-cs t) (at indexed t) (rank indexed .post) M
-indexed-ok t =
-    cycle.Lts-indexed.spec (indexed-cs t) (at indexed t) (rank indexed .post) (λ c κs. omega arith) (λ c κs. omega arith)
-    (λ c κs. (
-      omega (arith, c .before .before .before .before .before .before .before .before .before .before .pre .0, left-at),
-      search (ready-at, with-state),
-    )) (λ c κs. omega arith) (λ c. omega arith) (λ c. omega arith) (λ c. search (indexed-gave, gave-at))
+indexed-ok t = cycle.Lts-indexed.spec (indexed-cs t) (at indexed t) (rank indexed .post) (λ c κs. omega arith) (λ c κs. omega arith) (λ c κs. (
+  omega (arith, c .before .before .before .before .before .before .before .before .before .before .pre .0, left-at),
+  search (ready-at, with-state),
+)) (λ c κs. omega arith) (λ c. omega arith) (λ c. omega arith) (λ c. search (indexed-gave, gave-at))
 
 abbrev passed-cs : ℕ → cycle.Lts-passed.Claims
 passed-cs t = three (steps.reached.Reads.Asked, steps.reached.Reads.Learnt) (steps.raised.Reads.Asked, steps.raised.Reads.Learnt) (calls args t)
 
 pub passed-ok : {M : Type 1} (t : ℕ) → cycle.Lts-passed.Closed (passed-cs t) (at passed t) (rank passed .post) M
-passed-ok t =
-    cycle.Lts-passed.spec (passed-cs t) (at passed t) (rank passed .post) (λ c. omega arith) (λ c κs. omega arith) (λ c κs. omega arith)
+passed-ok t = cycle.Lts-passed.spec (passed-cs t) (at passed t) (rank passed .post) (λ c. omega arith) (λ c κs. omega arith) (λ c κs. omega arith)
     -- args-requires
     (λ c κs. let after-reached = c .before .before .before in let start = after-reached .before .before .before .before .before in
     both (omega (arith, left-at)) (args-ready-at (c .raised .ensures) (args-with (after-reached .reached .ensures .by [] .label) (start .pre .1))))

@@ -11,14 +11,12 @@ use Rattle.compiler.proofs.Guards.{guard-test, guard-body, guard-gave}
 use cycle.Proof.Ranks.{rank, at, calls, both, three, six, seven, nine, bare, cases, command, expr, switch, test, when}
 
 abbrev when-cs : ℕ → cycle.Lts-when.Claims
-when-cs t =
-    seven (steps.node_at.Reads.Asked, steps.node_at.Reads.Learnt) (steps.fresh.Reads.Asked, steps.fresh.Reads.Learnt) (calls expr t)
+when-cs t = seven (steps.node_at.Reads.Asked, steps.node_at.Reads.Learnt) (steps.fresh.Reads.Asked, steps.fresh.Reads.Learnt) (calls expr t)
     (steps.jump_unless.Reads.Asked, steps.jump_unless.Reads.Learnt) (steps.put_to.Reads.Asked, steps.put_to.Reads.Learnt) (calls command t)
     (steps.mark.Reads.Asked, steps.mark.Reads.Learnt)
 
 pub when-ok : {M : Type 1} (t : ℕ) → cycle.Lts-when.Closed (when-cs t) (at when t) (rank when .post) M
-when-ok t =
-    cycle.Lts-when.spec (when-cs t) (at when t) (rank when .post) (λ c κs. omega arith) (λ c κs. omega arith) (λ c κs. omega arith)
+when-ok t = cycle.Lts-when.spec (when-cs t) (at when t) (rank when .post) (λ c κs. omega arith) (λ c κs. omega arith) (λ c κs. omega arith)
     (λ c κs. search (needs, guard-test)) (λ c κs. omega arith) (λ c κs. omega arith)
     -- command-requires
     (λ c κs. let after-put-to = c .before .before .before .before in
@@ -39,13 +37,11 @@ when-ok t =
     (c .before .before .mark .ensures))
 
 abbrev test-cs : ℕ → cycle.Lts-test.Claims
-test-cs t =
-    six (steps.node_at.Reads.Asked, steps.node_at.Reads.Learnt) (steps.fresh.Reads.Asked, steps.fresh.Reads.Learnt) (calls expr t)
+test-cs t = six (steps.node_at.Reads.Asked, steps.node_at.Reads.Learnt) (steps.fresh.Reads.Asked, steps.fresh.Reads.Learnt) (calls expr t)
     (steps.put_to.Reads.Asked, steps.put_to.Reads.Learnt) (calls command t) (steps.mark.Reads.Asked, steps.mark.Reads.Learnt)
 
 pub test-ok : {M : Type 1} (t : ℕ) → cycle.Lts-test.Closed (test-cs t) (at test t) (rank test .post) M
-test-ok t =
-    cycle.Lts-test.spec (test-cs t) (at test t) (rank test .post) (λ c κs. omega arith) (λ c κs. omega arith) (λ c κs. omega arith)
+test-ok t = cycle.Lts-test.spec (test-cs t) (at test t) (rank test .post) (λ c κs. omega arith) (λ c κs. omega arith) (λ c κs. omega arith)
     (λ c κs. omega arith)
     -- expr-requires
     (λ c κs. let after-node-at3 = c .before .before .before in let after-node-at2 = after-node-at3 .before .before in
@@ -108,15 +104,13 @@ test-ok t =
     (after-put-to2 .put-to2 .ensures) (after-mark .mark .ensures) (after-command2 .command2 .ensures) (c .before .before .mark2 .ensures))
 
 abbrev switch-cs : ℕ → cycle.Lts-switch.Claims
-switch-cs t =
-    nine (steps.node_at.Reads.Asked, steps.node_at.Reads.Learnt) (calls expr t) (steps.count.Reads.Asked, steps.count.Reads.Learnt)
+switch-cs t = nine (steps.node_at.Reads.Asked, steps.node_at.Reads.Learnt) (calls expr t) (steps.count.Reads.Asked, steps.count.Reads.Learnt)
     (steps.fresh.Reads.Asked, steps.fresh.Reads.Learnt) (proofs.labels.doubled.Reads.Asked, proofs.labels.doubled.Reads.Learnt)
     (proofs.labels.table.Reads.Asked, proofs.labels.table.Reads.Learnt) (steps.in_switch.Reads.Asked, steps.in_switch.Reads.Learnt) (calls cases t)
     (steps.mark.Reads.Asked, steps.mark.Reads.Learnt)
 
 switch-fit : (t : ℕ) (c : cycle.Lts-switch.After-count (switch-cs t) (at switch t) (rank switch .post))
-    → let after-expr = c .before .before .before .before .before .before in
-    (after-expr .expr .result .label + c .count .result + 1 ≤ 2 ^ 29) ×
+    → let after-expr = c .before .before .before .before .before .before in (after-expr .expr .result .label + c .count .result + 1 ≤ 2 ^ 29) ×
     (after-expr .before .before .before .before .before .before .before .before .before .args .st .label ≤ after-expr .expr .result .label)
 switch-fit t c =
     let after-expr = c .before .before .before .before .before .before in let after-node-at = after-expr .before .before .before .before in
@@ -125,8 +119,7 @@ switch-fit t c =
     (c .count .ensures) (start .pre .1 .0)
 
 pub switch-ok : {M : Type 1} (t : ℕ) → cycle.Lts-switch.Closed (switch-cs t) (at switch t) (rank switch .post) M
-switch-ok t =
-    cycle.Lts-switch.spec (switch-cs t) (at switch t) (rank switch .post) (λ c κs. omega arith) (λ c. omega arith)
+switch-ok t = cycle.Lts-switch.spec (switch-cs t) (at switch t) (rank switch .post) (λ c κs. omega arith) (λ c. omega arith)
     (λ c κs. search (needs, switch-value)) (λ c κs. omega arith) (λ c. omega (arith, switch-fit t c)) (λ c κs. omega (arith, switch-fit t c))
     -- doubled-requires
     (λ c κs. let after-node-at = c .before .before .before .before .before .before .before .before .before .before .before .before in
@@ -173,13 +166,11 @@ abbrev cases-cs : ℕ → cycle.Lts-cases.Claims
 cases-cs t = three (proofs.scope.entry.Reads.Asked, proofs.scope.entry.Reads.Learnt) (steps.mark.Reads.Asked, steps.mark.Reads.Learnt) (calls bare t)
 
 abbrev cases-Inv-loop : cycle.Lts-cases.InvT-loop
-cases-Inv-loop source s₀ from end text₀ here ways first at₀ k₀ r₀ s text at k r =
-    (length s ≡ length s₀) × (length text ≡ length text₀) × (k ≤ at) ×
+cases-Inv-loop source s₀ from end text₀ here ways first at₀ k₀ r₀ s text at k r = (length s ≡ length s₀) × (length text ≡ length text₀) × (k ≤ at) ×
     ((y : ReadyCases s₀ from end here r₀) → CasesPart source text₀ ways first y s text at k r)
 
 pub cases-ok : {M : Type 1} (t : ℕ) → cycle.Lts-cases.Closed (cases-cs t) (at cases t) (rank cases .post) M
-cases-ok t =
-    cycle.Lts-cases.spec (cases-cs t) (at cases t) (rank cases .post) cases-Inv-loop
+cases-ok t = cycle.Lts-cases.spec (cases-cs t) (at cases t) (rank cases .post) cases-Inv-loop
     (λ source s₀ from end text₀ here ways first at₀ k₀ r₀ s text at k r. end - at) (λ c. search (needs, cases-begin)) (λ c. omega arith)
     (λ c κs. omega arith) (λ c. omega arith) (λ c. omega arith) (λ c κs. omega arith)
     -- bare-requires

@@ -21,8 +21,7 @@ command-cs t =
     (calls bare t)
 
 pub command-ok : {M : Type 1} (t : ℕ) → cycle.Lts-command.Closed (command-cs t) (at command t) (rank command .post) M
-command-ok t =
-    cycle.Lts-command.spec (command-cs t) (at command t) (rank command .post) (λ c κs. omega arith) (λ c. omega arith)
+command-ok t = cycle.Lts-command.spec (command-cs t) (at command t) (rank command .post) (λ c κs. omega arith) (λ c. omega arith)
     (λ c κs. labelled-labels _ (c .before .before .before .before .node-at .ensures) (c .before .before .if1 .taken) refl
     (c .before .before .before .before .before .before .before .before .before .pre .1) .small)
     -- bare-requires
@@ -37,8 +36,7 @@ abbrev bare-cs : ℕ → cycle.Lts-bare.Claims
 bare-cs t = three (steps.node_at.Reads.Asked, steps.node_at.Reads.Learnt) (steps.inside.Reads.Asked, steps.inside.Reads.Learnt) (calls repeated t)
 
 pub bare-ok : {M : Type 1} (t : ℕ) → cycle.Lts-bare.Closed (bare-cs t) (at bare t) (rank bare .post) M
-bare-ok t =
-    cycle.Lts-bare.spec (bare-cs t) (at bare t) (rank bare .post) (λ c κs. omega arith) (λ c. omega arith) (λ c. omega arith)
+bare-ok t = cycle.Lts-bare.spec (bare-cs t) (at bare t) (rank bare .post) (λ c κs. omega arith) (λ c. omega arith) (λ c. omega arith)
     (λ c. search bare-empty) (λ c κs. omega arith)
     -- repeated-requires
     (λ c κs. let after-if2 = c .before .before .before in let after-if1 = after-if2 .before .before .before in
@@ -55,8 +53,7 @@ bare-ok t =
     (gave-r-at _ (after-inside .inside .ensures) refl (after-repeated .repeated .ensures)))
     (λ c κs. omega arith)
     (λ c κs. both (omega (arith, c .before .before .before .before .before .before .before .before .before .before .pre .0, left-at, command-some))
-    (search (ready-at, bare-part)))
-    (λ c. omega arith) (λ c. omega arith) (λ c. search (bare-gave, gave-r-at))
+    (search (ready-at, bare-part))) (λ c. omega arith) (λ c. omega arith) (λ c. search (bare-gave, gave-r-at))
 
 abbrev plain-cs : ℕ → cycle.Lts-plain.Claims
 plain-cs t =
@@ -65,8 +62,7 @@ plain-cs t =
     (steps.away.Reads.Asked, steps.away.Reads.Learnt)
 
 pub plain-ok : {M : Type 1} (t : ℕ) → cycle.Lts-plain.Closed (plain-cs t) (at plain t) (rank plain .post) M
-plain-ok t =
-    cycle.Lts-plain.spec (plain-cs t) (at plain t) (rank plain .post) (λ c κs. omega arith) (λ c κs. search (needs, result-part))
+plain-ok t = cycle.Lts-plain.spec (plain-cs t) (at plain t) (rank plain .post) (λ c κs. omega arith) (λ c κs. search (needs, result-part))
     (λ c κs. omega arith) (λ c κs. search (needs, when-if)) (λ c κs. search (needs, when-unless)) (λ c κs. search needs) (λ c. omega arith)
     (λ c. omega arith) (λ c κs. search (needs, assigned-part)) (λ c κs. search needs) (λ c κs. search (needs, while-while))
     (λ c κs. search (needs, while-until)) (λ c κs. (omega arith, (search needs, record { is = cc })))

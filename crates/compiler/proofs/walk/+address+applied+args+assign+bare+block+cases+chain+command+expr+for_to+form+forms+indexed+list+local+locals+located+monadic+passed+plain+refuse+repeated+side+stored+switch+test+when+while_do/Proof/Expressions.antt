@@ -15,16 +15,14 @@ use Rattle.compiler.proofs.Expressions.{chain-gave-at, left-at, some-le
 use cycle.Proof.Ranks.{rank, at, calls, both, four, six, fourteen, address, applied, chain, command, expr, monadic}
 
 abbrev expr-cs : ℕ → cycle.Lts-expr.Claims
-expr-cs t =
-    fourteen (steps.node_at.Reads.Asked, steps.node_at.Reads.Learnt) (steps.put.Reads.Asked, steps.put.Reads.Learnt)
+expr-cs t = fourteen (steps.node_at.Reads.Asked, steps.node_at.Reads.Learnt) (steps.put.Reads.Asked, steps.put.Reads.Learnt)
     (steps.put_to.Reads.Asked, steps.put_to.Reads.Learnt) (proofs.scope.lookup.Reads.Asked, proofs.scope.lookup.Reads.Learnt)
     (steps.value.Reads.Asked, steps.value.Reads.Learnt) (steps.inside.Reads.Asked, steps.inside.Reads.Learnt) (calls expr t) (calls chain t)
     (steps.fresh.Reads.Asked, steps.fresh.Reads.Learnt) (steps.in_valof.Reads.Asked, steps.in_valof.Reads.Learnt) (calls command t)
     (steps.mark.Reads.Asked, steps.mark.Reads.Learnt) (calls monadic t) (calls applied t)
 
 pub expr-ok : {M : Type 1} (t : ℕ) → cycle.Lts-expr.Closed (expr-cs t) (at expr t) (rank expr .post) M
-expr-ok t =
-    cycle.Lts-expr.spec (expr-cs t) (at expr t) (rank expr .post) (λ c κs. omega arith) (λ c κs. omega arith) (λ c. omega arith)
+expr-ok t = cycle.Lts-expr.spec (expr-cs t) (at expr t) (rank expr .post) (λ c κs. omega arith) (λ c κs. omega arith) (λ c. omega arith)
     (λ c κs. omega arith) (λ c κs. omega arith) (λ c κs. omega arith) (λ c κs. omega arith)
     (λ c κs. (omega (arith, left-at, some-left), search (ready-at, bracket-part))) (λ c κs. omega arith) (λ c. omega arith)
     (λ c κs. both (omega (arith, c .before .before .before .before .before .before .before .before .before .before .pre .0, left-at, some-left))
@@ -33,8 +31,7 @@ expr-ok t =
     (λ c κs. let after-expr2 = c .before .before .before .before .before .before in let after-inside2 = after-expr2 .before .before .before .before in
     let after-match = after-inside2 .before in let after-node-at = after-match .before in
     let start = after-node-at .before .before .before .before .before in
-    both (omega (arith, start .pre .0, left-at, some-left))
-    (chain-ready-at (after-inside2 .inside2 .ensures)
+    both (omega (arith, start .pre .0, left-at, some-left)) (chain-ready-at (after-inside2 .inside2 .ensures)
     (dyadic-rest _ (after-node-at .node-at .ensures) (after-match .match .keys5) refl _
     (gave-at _ (after-inside2 .inside2 .ensures) (after-expr2 .expr2 .ensures)) (start .pre .1))))
     (λ c κs. omega arith) (λ c κs. omega arith) (λ c κs. omega arith)
@@ -66,8 +63,7 @@ expr-ok t =
     (suffixes-gave-at (after-inside5 .inside5 .ensures) (after-applied .applied .ensures)))
 
 abbrev chain-cs : ℕ → cycle.Lts-chain.Claims
-chain-cs t =
-    six (proofs.scope.entry.Reads.Asked, proofs.scope.entry.Reads.Learnt) (steps.keep.Reads.Asked, steps.keep.Reads.Learnt)
+chain-cs t = six (proofs.scope.entry.Reads.Asked, proofs.scope.entry.Reads.Learnt) (steps.keep.Reads.Asked, steps.keep.Reads.Learnt)
     (steps.raised.Reads.Asked, steps.raised.Reads.Learnt) (calls expr t) (steps.act_of.Reads.Asked, steps.act_of.Reads.Learnt)
     (steps.operate.Reads.Asked, steps.operate.Reads.Learnt)
 
@@ -100,8 +96,7 @@ chain-ok t =
     let after-entry2 = after-keep .before .before in let after-entry = after-entry2 .before .before in
     let after-loop-test = after-entry .before .before in let after-loop = after-loop-test .before in (
       after-expr .expr .kept .1 .0 ∙ after-loop .loop .inv .0,
-      c .before .before .operate .kept .0 ∙ after-expr .expr .kept .1 .1 .1 .0
-          ∙ after-keep .keep .kept .0 ∙ after-loop .loop .inv .1,
+      c .before .before .operate .kept .0 ∙ after-expr .expr .kept .1 .1 .1 .0 ∙ after-keep .keep .kept .0 ∙ after-loop .loop .inv .1,
       λ y. chain-next _ _ (after-loop-test .loop-test .taken)
           (after-entry .entry .ensures .0) (after-entry2 .entry2 .ensures .0) refl (after-act-of .act-of .ensures) (after-keep .keep .ensures)
           (gave-at _ (after-raised .raised .ensures) (after-expr .expr .ensures)) (c .before .before .operate .ensures) y

@@ -13,8 +13,7 @@ use Rattle.compiler.proofs.Expressions.{ready-at, gave-at, left-at}
 use cycle.Proof.Ranks.{rank, at, calls, both, three, four, eight, fifteen, command, expr, for-to, form, forms, plain, repeated, while-do}
 
 abbrev while-do-cs : ℕ → cycle.Lts-while_do.Claims
-while-do-cs t =
-    eight (steps.node_at.Reads.Asked, steps.node_at.Reads.Learnt) (steps.fresh.Reads.Asked, steps.fresh.Reads.Learnt)
+while-do-cs t = eight (steps.node_at.Reads.Asked, steps.node_at.Reads.Learnt) (steps.fresh.Reads.Asked, steps.fresh.Reads.Learnt)
     (steps.mark.Reads.Asked, steps.mark.Reads.Learnt) (calls expr t) (steps.jump_unless.Reads.Asked, steps.jump_unless.Reads.Learnt)
     (steps.put_to.Reads.Asked, steps.put_to.Reads.Learnt) (steps.in_loop.Reads.Asked, steps.in_loop.Reads.Learnt) (calls command t)
 
@@ -73,8 +72,7 @@ while-do-ok t =
     (c .before .before .mark2 .ensures))
 
 abbrev for-to-cs : ℕ → cycle.Lts-for_to.Claims
-for-to-cs t =
-    fifteen (steps.node_at.Reads.Asked, steps.node_at.Reads.Learnt) (steps.minus.Reads.Asked, steps.minus.Reads.Learnt)
+for-to-cs t = fifteen (steps.node_at.Reads.Asked, steps.node_at.Reads.Learnt) (steps.minus.Reads.Asked, steps.minus.Reads.Learnt)
     (steps.fresh.Reads.Asked, steps.fresh.Reads.Learnt) (calls expr t) (steps.keep.Reads.Asked, steps.keep.Reads.Learnt)
     (steps.raised.Reads.Asked, steps.raised.Reads.Learnt) (proofs.labels.by_constant.Reads.Asked, proofs.labels.by_constant.Reads.Learnt)
     (steps.blame.Reads.Asked, steps.blame.Reads.Learnt) (steps.for_test.Reads.Asked, steps.for_test.Reads.Learnt)
@@ -100,8 +98,7 @@ for-to-room t c =
     (after-node-at3 .node-at3 .ensures) (start .pre .1 .1 .is) (start .pre .1 .0)
 
 pub for-to-ok : {M : Type 1} (t : ℕ) → cycle.Lts-for_to.Closed (for-to-cs t) (at for-to t) (rank for-to .post) M
-for-to-ok t =
-    cycle.Lts-for_to.spec (for-to-cs t) (at for-to t) (rank for-to .post) (λ c κs. omega arith) (λ c κs. omega arith) (λ c κs. omega arith)
+for-to-ok t = cycle.Lts-for_to.spec (for-to-cs t) (at for-to t) (rank for-to .post) (λ c κs. omega arith) (λ c κs. omega arith) (λ c κs. omega arith)
     (λ c κs. omega arith) (λ c κs. omega arith)
     -- expr-requires
     (λ c κs. let after-node-at3 = c .before .before .before in let after-minus = after-node-at3 .before .before in
@@ -184,8 +181,7 @@ for-to-ok t =
     let after-expr = after-keep .before .before .before .before .before .before in let after-fresh = after-expr .before .before .before in
     let after-node-at3 = after-fresh .before in let after-minus = after-node-at3 .before .before in let after-node-at2 = after-minus .before in
     let after-node-at = after-node-at2 .before .before in let start = after-node-at .before .before .before .before .before in
-    both (omega (arith, start .pre .0, left-at))
-    (ready-at (after-set-at .set-at .ensures)
+    both (omega (arith, start .pre .0, left-at)) (ready-at (after-set-at .set-at .ensures)
     (for-body _ _ _ (after-node-at .node-at .ensures) (after-node-at2 .node-at2 .ensures) (after-minus .minus .ensures)
     (after-node-at3 .node-at3 .ensures) (start .pre .1 .1 .is) _ (after-fresh .fresh .ensures) (after-expr .expr .ensures) (after-keep .keep .ensures)
     (gave-at _ (after-raised .raised .ensures) (after-expr2 .expr2 .ensures)) (after-keep2 .keep2 .ensures) (after-by-constant .by-constant .ensures)
@@ -235,14 +231,12 @@ abbrev form-cs : ℕ → cycle.Lts-form.Claims
 form-cs t = three (steps.put_to.Reads.Asked, steps.put_to.Reads.Learnt) (calls expr t) (steps.jump_when.Reads.Asked, steps.jump_when.Reads.Learnt)
 
 pub form-ok : {M : Type 1} (t : ℕ) → cycle.Lts-form.Closed (form-cs t) (at form t) (rank form .post) M
-form-ok t =
-    cycle.Lts-form.spec (form-cs t) (at form t) (rank form .post) (λ c κs. omega arith) (λ c. omega arith) (λ c. search form-alone)
+form-ok t = cycle.Lts-form.spec (form-cs t) (at form t) (rank form .post) (λ c κs. omega arith) (λ c. omega arith) (λ c. search form-alone)
     (λ c κs. (omega arith, c .before .before .before .before .before .before .pre .1 .on (c .before .before .if1 .left))) (λ c κs. omega arith)
     (λ c κs. omega arith) (λ c. omega arith) (λ c. omega arith) (λ c. search form-tested)
 
 abbrev forms-cs : ℕ → cycle.Lts-forms.Claims
-forms-cs t =
-    four (proofs.scope.entry.Reads.Asked, proofs.scope.entry.Reads.Learnt) (steps.mark.Reads.Asked, steps.mark.Reads.Learnt) (calls form t)
+forms-cs t = four (proofs.scope.entry.Reads.Asked, proofs.scope.entry.Reads.Learnt) (steps.mark.Reads.Asked, steps.mark.Reads.Learnt) (calls form t)
     (steps.minus.Reads.Asked, steps.minus.Reads.Learnt)
 
 abbrev forms-Inv-loop : cycle.Lts-forms.InvT-loop
@@ -251,8 +245,7 @@ forms-Inv-loop source s₀ from end text₀ here innermost at₀ own₀ r₀ s t
     ((y : ReadyForms s₀ from end here r₀) → FormsPart source text₀ innermost y s text at own r)
 
 pub forms-ok : {M : Type 1} (t : ℕ) → cycle.Lts-forms.Closed (forms-cs t) (at forms t) (rank forms .post) M
-forms-ok t =
-    cycle.Lts-forms.spec (forms-cs t) (at forms t) (rank forms .post) forms-Inv-loop
+forms-ok t = cycle.Lts-forms.spec (forms-cs t) (at forms t) (rank forms .post) forms-Inv-loop
     (λ source s₀ from end text₀ here innermost at₀ own₀ r₀ s text at own r. end - at) (λ c. search (needs, forms-begin)) (λ c κs. omega arith)
     (λ c. omega arith) (λ c κs. omega arith) (λ c. omega arith) (λ c. omega arith) (λ c. omega arith) (λ c κs. omega arith)
     -- form-requires
@@ -274,8 +267,7 @@ forms-ok t =
     let after-entry = after-entry2 .before .before in let after-loop-test = after-entry .before .before in
     let after-loop = after-loop-test .before in let start = after-loop .before .before .before .before in (
       after-form .form .kept .1 .0 ∙ after-loop .loop .inv .0,
-      after-mark2 .mark2 .kept .0 ∙ after-form .form .kept .1 .1 .1 .0
-          ∙ after-mark .mark .kept .0 ∙ after-loop .loop .inv .1,
+      after-mark2 .mark2 .kept .0 ∙ after-form .form .kept .1 .1 .1 .0 ∙ after-mark .mark .kept .0 ∙ after-loop .loop .inv .1,
       omega (arith, after-loop .loop .inv .2),
       λ y. forms-next _ _
           (start .args .innermost) (after-loop-test .loop-test .taken) (after-entry .entry .ensures .0) (after-entry2 .entry2 .ensures .0) refl
@@ -284,8 +276,7 @@ forms-ok t =
     (λ c. c .before .loop .inv .0) (λ c. c .before .loop .inv .1) (λ c. forms-end _ _ _ (c .loop-test .left) (c .before .loop .inv .3))
 
 abbrev repeated-cs : ℕ → cycle.Lts-repeated.Claims
-repeated-cs t =
-    eight (steps.node_at.Reads.Asked, steps.node_at.Reads.Learnt) (steps.count.Reads.Asked, steps.count.Reads.Learnt)
+repeated-cs t = eight (steps.node_at.Reads.Asked, steps.node_at.Reads.Learnt) (steps.count.Reads.Asked, steps.count.Reads.Learnt)
     (steps.minus.Reads.Asked, steps.minus.Reads.Learnt) (steps.fresh.Reads.Asked, steps.fresh.Reads.Learnt)
     (steps.tops.Reads.Asked, steps.tops.Reads.Learnt) (steps.in_loop.Reads.Asked, steps.in_loop.Reads.Learnt) (calls plain t) (calls forms t)
 

@@ -27,8 +27,7 @@ level x k = x .left * 4294967300 + k
 
 abbrev pub rank : Function → Member
 rank address = member walk.address.Kinds.ps walk.address.Kinds.r (λ κs a. level (a .1 .1 .1 .1 .0) 5) walk.address.Reads.Pre walk.address.Reads.Post
-rank applied =
-    member walk.applied.Kinds.ps walk.applied.Kinds.r (λ κs a. level (a .1 .1 .1 .1 .1 .0) (3 + a .1 .1 .1 .0)) walk.applied.Reads.Pre
+rank applied = member walk.applied.Kinds.ps walk.applied.Kinds.r (λ κs a. level (a .1 .1 .1 .1 .1 .0) (3 + a .1 .1 .1 .0)) walk.applied.Reads.Pre
     walk.applied.Reads.Post
 rank args = member walk.args.Kinds.ps walk.args.Kinds.r (λ κs a. level (a .1 .1 .1 .1 .1 .0) 1) walk.args.Reads.Pre walk.args.Reads.Post
 rank assign = member walk.assign.Kinds.ps walk.assign.Kinds.r (λ κs a. level (a .1 .1 .1 .1 .1 .1 .0) 6) walk.assign.Reads.Pre walk.assign.Reads.Post
@@ -82,8 +81,7 @@ three (a, b) (c, d) (e, f) = (a, b, c, d, e, f)
 abbrev pub four : {A B C D E F G H : Type 1} → A × B → C × D → E × F → G × H → A × B × C × D × E × F × G × H
 four (a, b) (c, d) (e, f) (g, h) = (a, b, c, d, e, f, g, h)
 
-abbrev pub six : {A B C D E F G H I J K L : Type 1} → A × B → C × D → E × F → G × H → I × J → K × L
-    → A × B × C × D × E × F × G × H × I × J × K × L
+abbrev pub six : {A B C D E F G H I J K L : Type 1} → A × B → C × D → E × F → G × H → I × J → K × L → A × B × C × D × E × F × G × H × I × J × K × L
 six (a, b) (c, d) (e, f) (g, h) (i, j) (k, l) = (a, b, c, d, e, f, g, h, i, j, k, l)
 
 abbrev pub seven : {A B C D E F G H I J K L M N : Type 1} → A × B → C × D → E × F → G × H → I × J → K × L → M × N

@@ -14,22 +14,19 @@ use Rattle.compiler.proofs.Expressions.{bracket-part, ready-at, gave-at
 use cycle.Proof.Ranks.{rank, at, below, calls, both, four, eight, nine, eleven, address, applied, assign, expr, located, refuse, side, stored}
 
 abbrev address-cs : ℕ → cycle.Lts-address.Claims
-address-cs t =
-    eight (steps.node_at.Reads.Asked, steps.node_at.Reads.Learnt) (steps.inside.Reads.Asked, steps.inside.Reads.Learnt) (calls address t)
+address-cs t = eight (steps.node_at.Reads.Asked, steps.node_at.Reads.Learnt) (steps.inside.Reads.Asked, steps.inside.Reads.Learnt) (calls address t)
     (proofs.scope.lookup.Reads.Asked, proofs.scope.lookup.Reads.Learnt) (steps.name_address.Reads.Asked, steps.name_address.Reads.Learnt)
     (calls located t) (calls expr t) (calls refuse t)
 
 pub address-ok : {M : Type 1} (t : ℕ) → cycle.Lts-address.Closed (address-cs t) (at address t) (rank address .post) M
-address-ok t =
-    cycle.Lts-address.spec (address-cs t) (at address t) (rank address .post) (λ c κs. omega arith) (λ c κs. omega arith)
+address-ok t = cycle.Lts-address.spec (address-cs t) (at address t) (rank address .post) (λ c κs. omega arith) (λ c κs. omega arith)
     (λ c κs. (omega (arith, left-at, some-left), (search (ready-at, bracket-part), omega arith))) (λ c κs. omega arith) (λ c κs. omega arith)
     (λ c κs. search needs) (λ c κs. omega arith)
     (λ c κs. both (let falls = c .before .before .before .before .before .before .before .before .before .before .before .pre .0 in
     omega (arith, left-at, some-left)) (search (ready-at, monadic-part)))
     (λ c. omega arith) (λ c. omega arith) (λ c. search (address-pling, gave-at)) (λ c κs. search needs) (λ c κs. search needs) (λ c. omega arith)
     (λ c. omega arith) (λ c. search (address-open, gave-address-at)) (λ c. omega arith) (λ c. omega arith) (λ c. search address-name)
-    (λ c. omega arith) (λ c. omega arith)
-    (λ c. c .before .before .before .before .located .ensures
+    (λ c. omega arith) (λ c. omega arith) (λ c. c .before .before .before .before .located .ensures
     (c .before .before .before .before .before .before .before .before .before .before .before .before .before .args .place))
     (λ c. omega arith) (λ c. omega arith)
     -- returns-5
@@ -45,8 +42,7 @@ address-ok t =
     (after-refuse2 .refuse2 .ensures))
 
 abbrev located-cs : ℕ → cycle.Lts-located.Claims
-located-cs t =
-    nine (steps.node_at.Reads.Asked, steps.node_at.Reads.Learnt) (steps.minus.Reads.Asked, steps.minus.Reads.Learnt)
+located-cs t = nine (steps.node_at.Reads.Asked, steps.node_at.Reads.Learnt) (steps.minus.Reads.Asked, steps.minus.Reads.Learnt)
     (proofs.scope.entry.Reads.Asked, proofs.scope.entry.Reads.Learnt) (steps.inside.Reads.Asked, steps.inside.Reads.Learnt) (calls applied t)
     (steps.keep.Reads.Asked, steps.keep.Reads.Learnt) (steps.raised.Reads.Asked, steps.raised.Reads.Learnt) (calls expr t)
     (steps.put.Reads.Asked, steps.put.Reads.Learnt)
@@ -59,8 +55,7 @@ located-ok t =
     (λ c κs. let after-inside = c .before .before .before in let after-minus2 = after-inside .before in let after-entry = after-minus2 .before in
     let after-minus = after-entry .before .before in let after-node-at = after-minus .before in
     let start = after-node-at .before .before .before .before .before in
-    both (omega (arith, start .pre .0, left-at, some-left, start .pre .1 .0 .small))
-    (suffixes-ready-at (after-inside .inside .ensures)
+    both (omega (arith, start .pre .0, left-at, some-left, start .pre .1 .0 .small)) (suffixes-ready-at (after-inside .inside .ensures)
     (address-left _ (after-node-at .node-at .ensures) (start .pre .1 .1) refl (after-minus .minus .ensures) (after-entry .entry .ensures .0)
     (after-minus2 .minus2 .ensures) (start .pre .1 .0))))
     -- keep-requires
@@ -76,8 +71,7 @@ located-ok t =
     let after-inside = after-applied .before .before .before .before in let after-minus2 = after-inside .before in
     let after-entry = after-minus2 .before in let after-minus = after-entry .before .before in let after-node-at = after-minus .before in
     let start = after-node-at .before .before .before .before .before in
-    both (omega (arith, start .pre .0, left-at, some-left))
-    (ready-at (c .raised .ensures ∙ ap (raised 1) (after-inside .inside .ensures))
+    both (omega (arith, start .pre .0, left-at, some-left)) (ready-at (c .raised .ensures ∙ ap (raised 1) (after-inside .inside .ensures))
     (address-right _ (after-node-at .node-at .ensures) (start .pre .1 .1) refl (after-minus .minus .ensures) (after-entry .entry .ensures .0)
     (after-minus2 .minus2 .ensures) _ (suffixes-gave-at (after-inside .inside .ensures) (after-applied .applied .ensures)) (after-keep .keep .ensures)
     (start .pre .1 .0))))
@@ -107,20 +101,17 @@ abbrev refuse-cs : ℕ → cycle.Lts-refuse.Claims
 refuse-cs t = (below expr t, rank expr .post, steps.wrong.Reads.Asked, steps.wrong.Reads.Learnt)
 
 pub refuse-ok : {M : Type 1} (t : ℕ) → cycle.Lts-refuse.Closed (refuse-cs t) (at refuse t) (rank refuse .post) M
-refuse-ok t =
-    cycle.Lts-refuse.spec (refuse-cs t) (at refuse t) (rank refuse .post) (λ c κs. search needs) (λ c κs. omega arith) (λ c. omega arith)
+refuse-ok t = cycle.Lts-refuse.spec (refuse-cs t) (at refuse t) (rank refuse .post) (λ c κs. search needs) (λ c κs. omega arith) (λ c. omega arith)
     (λ c. omega arith) (λ c. search refuse-gave)
 
 abbrev side-cs : ℕ → cycle.Lts-side.Claims
-side-cs t =
-    eleven (steps.node_at.Reads.Asked, steps.node_at.Reads.Learnt) (steps.inside.Reads.Asked, steps.inside.Reads.Learnt) (calls side t)
+side-cs t = eleven (steps.node_at.Reads.Asked, steps.node_at.Reads.Learnt) (steps.inside.Reads.Asked, steps.inside.Reads.Learnt) (calls side t)
     (proofs.scope.lookup.Reads.Asked, proofs.scope.lookup.Reads.Learnt) (steps.name_store.Reads.Asked, steps.name_store.Reads.Learnt) (calls stored t)
     (steps.keep.Reads.Asked, steps.keep.Reads.Learnt) (steps.raised.Reads.Asked, steps.raised.Reads.Learnt) (calls expr t)
     (steps.store_through.Reads.Asked, steps.store_through.Reads.Learnt) (calls refuse t)
 
 pub side-ok : {M : Type 1} (t : ℕ) → cycle.Lts-side.Closed (side-cs t) (at side t) (rank side .post) M
-side-ok t =
-    cycle.Lts-side.spec (side-cs t) (at side t) (rank side .post) (λ c κs. omega arith) (λ c κs. omega arith)
+side-ok t = cycle.Lts-side.spec (side-cs t) (at side t) (rank side .post) (λ c κs. omega arith) (λ c κs. omega arith)
     -- side-requires
     (λ c κs. let after-match = c .before .before .before in let after-node-at = after-match .before in
     let start = after-node-at .before .before .before .before .before in
@@ -134,8 +125,7 @@ side-ok t =
     -- expr-requires
     (λ c κs. let after-keep = c .before .before .before .before .before .before in let after-match = after-keep .before .before .before .before in
     let after-node-at = after-match .before in let start = after-node-at .before .before .before .before .before in
-    both (omega (arith, start .pre .0, left-at, some-left))
-    (ready-at (c .raised .ensures ∙ ap (raised 1) (c .before .inside2 .ensures))
+    both (omega (arith, start .pre .0, left-at, some-left)) (ready-at (c .raised .ensures ∙ ap (raised 1) (c .before .inside2 .ensures))
     (side-part [] 0 _ (after-node-at .node-at .ensures) (after-match .match .keys4) (after-keep .keep .ensures) (start .pre .1 .0))))
     -- store-through-requires
     (λ c κs. let start = c .before .before .before .before .before .before .before .before .before .before .before .before .before .before .before
@@ -150,8 +140,7 @@ side-ok t =
     (c .before .before .store-through .ensures))
     (λ c κs. omega arith)
     (λ c κs. both (omega (arith, c .before .before .before .before .before .before .before .before .before .before .before .pre .0, left-at))
-    (search ready-at))
-    (λ c κs. omega arith) (λ c κs. (omega (arith, left-at), (search ready-at, omega arith))) (λ c. omega arith) (λ c. omega arith)
+    (search ready-at)) (λ c κs. omega arith) (λ c κs. (omega (arith, left-at), (search ready-at, omega arith))) (λ c. omega arith) (λ c. omega arith)
     (λ c. search (side-open, gave-side-at)) (λ c. omega arith) (λ c. omega arith) (λ c. search side-name) (λ c. omega arith) (λ c. omega arith)
     (λ c. c .before .before .before .before .stored .ensures
     (c .before .before .before .before .before .before .before .before .before .before .before .before .before .args .place))
@@ -169,19 +158,16 @@ side-ok t =
     (gave-refused-at (after-raised3 .raised3 .ensures) (after-refuse2 .refuse2 .ensures)))
 
 abbrev stored-cs : ℕ → cycle.Lts-stored.Claims
-stored-cs t =
-    nine (steps.node_at.Reads.Asked, steps.node_at.Reads.Learnt) (steps.minus.Reads.Asked, steps.minus.Reads.Learnt)
+stored-cs t = nine (steps.node_at.Reads.Asked, steps.node_at.Reads.Learnt) (steps.minus.Reads.Asked, steps.minus.Reads.Learnt)
     (proofs.scope.entry.Reads.Asked, proofs.scope.entry.Reads.Learnt) (steps.inside.Reads.Asked, steps.inside.Reads.Learnt)
     (steps.raised.Reads.Asked, steps.raised.Reads.Learnt) (steps.keep.Reads.Asked, steps.keep.Reads.Learnt) (calls applied t) (calls expr t)
     (steps.store_indexed.Reads.Asked, steps.store_indexed.Reads.Learnt)
 
 pub stored-ok : {M : Type 1} (t : ℕ) → cycle.Lts-stored.Closed (stored-cs t) (at stored t) (rank stored .post) M
-stored-ok t =
-    cycle.Lts-stored.spec (stored-cs t) (at stored t) (rank stored .post) (λ c κs. omega arith) (λ c κs. omega arith) (λ c κs. omega arith)
+stored-ok t = cycle.Lts-stored.spec (stored-cs t) (at stored t) (rank stored .post) (λ c κs. omega arith) (λ c κs. omega arith) (λ c κs. omega arith)
     (λ c κs. omega arith) (λ c κs. omega arith)
     (λ c κs. let height = c .before .before .before .before .before .before .before .before .before .before .pre .1 .0 .height in
-    let same-height = ap (λ (x : Here). x .height) (c .inside .ensures) in omega arith)
-    (λ c κs. omega arith)
+    let same-height = ap (λ (x : Here). x .height) (c .inside .ensures) in omega arith) (λ c κs. omega arith)
     -- add-applied
     (λ c. let after-node-at = c .before .before .before .before .before .before .before .before .before .before .before .before in
     let start = after-node-at .before .before .before .before .before in
@@ -272,8 +258,7 @@ assign-low t c = let y = c .before .before .before .before .before .pre .1 in le
     omega (arith, assign-is _ _ (c .loop-test .taken) refl refl y p .before, y .ready .small, p .starts, c .loop-test .taken)
 
 pub assign-ok : {M : Type 1} (t : ℕ) → cycle.Lts-assign.Closed (assign-cs t) (at assign t) (rank assign .post) M
-assign-ok t =
-    cycle.Lts-assign.spec (assign-cs t) (at assign t) (rank assign .post) assign-Inv-loop assign-μ-loop (λ c. search (needs, assign-begin))
+assign-ok t = cycle.Lts-assign.spec (assign-cs t) (at assign t) (rank assign .post) assign-Inv-loop assign-μ-loop (λ c. search (needs, assign-begin))
     (λ c. omega arith) (λ c κs. omega arith) (λ c. omega (arith, c .entry .ensures .1))
     -- expr-requires
     (λ c κs. let after-loop-test = c .before .before .before .before in let after-loop = after-loop-test .before in

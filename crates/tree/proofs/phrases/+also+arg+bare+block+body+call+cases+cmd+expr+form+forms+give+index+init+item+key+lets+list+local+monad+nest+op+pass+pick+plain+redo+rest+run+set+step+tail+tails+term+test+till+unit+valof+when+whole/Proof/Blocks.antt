@@ -29,8 +29,7 @@ abbrev pub step-cs : ℕ → Calls cycle.Lts-step.Claims
 step-cs t = calls-8 free-of expect a-name (below expr-rank t) optional-by minus (below cmd-rank t) node
 
 pub step-ok : {M : Type 1} (t : ℕ) → cycle.Lts-step.Closed (step-cs t .claims) (at step-rank t) (step-rank .post) M
-step-ok t =
-    cycle.Lts-step.spec (step-cs t .claims) (at step-rank t) (step-rank .post) (λ c κs. tt) (λ c κs. omega arith)
+step-ok t = cycle.Lts-step.spec (step-cs t .claims) (at step-rank t) (step-rank .post) (λ c κs. tt) (λ c κs. omega arith)
     (λ c κs. past-symbol refl (c .before .expect .ensures))
     (λ c κs. let e = c .before .before .before .a-name in pair (ready-leaves (e .ensures .1 .0) (e .kept .0) refl (e .ensures .0)) (omega arith))
     (λ c κs. pair (omega arith) (pair (past-symbol refl (c .before .expect2 .ensures)) (omega arith)))
@@ -77,8 +76,7 @@ abbrev pub pick-cs : ℕ → Calls cycle.Lts-pick.Claims
 pick-cs t = calls-7 free-of expect (below expr-rank t) minus (below item-rank t) (below list-rank t) node
 
 pub pick-ok : {M : Type 1} (t : ℕ) → cycle.Lts-pick.Closed (pick-cs t .claims) (at pick-rank t) (pick-rank .post) M
-pick-ok t =
-    cycle.Lts-pick.spec (pick-cs t .claims) (at pick-rank t) (pick-rank .post) (λ c κs. tt) (λ c κs. omega arith)
+pick-ok t = cycle.Lts-pick.spec (pick-cs t .claims) (at pick-rank t) (pick-rank .post) (λ c κs. tt) (λ c κs. omega arith)
     (λ c κs. pair (omega arith) (pair (past-symbol refl (c .before .expect .ensures)) (omega arith))) (λ c κs. tt) (λ c κs. tt)
     (λ c κs. let e = c .before .before .before .before .before .before .expr in pair (past-expression refl (e .ensures) (e .kept .0)) (omega arith))
     (λ c κs. pair (past-symbol refl (c .before .expect2 .ensures)) (omega arith))
@@ -99,8 +97,7 @@ pick-ok t =
     (λ c. let node = c .before .before in let at-list = node .before .before .before .before in let item = at-list .before .before .before .before in
     let expect3 = item .before .before in let expect2 = expect3 .before .before in let minus = expect2 .before .before in
     let free-of2 = minus .before in let expr = free-of2 .before .before .before .before in let expect = expr .before .before in
-    let free-of = expect .before .before in leaves
-    ((λ src l a b c d f g. switchon-read l _ _ (free-of .free-of .ensures .1) a b c d f g
+    let free-of = expect .before .before in leaves ((λ src l a b c d f g. switchon-read l _ _ (free-of .free-of .ensures .1) a b c d f g
     (measured _ _ (minus .minus .ensures .1) (free-of2 .free-of2 .ensures .1) (expr .expr .kept .0))) from expect .expect .ensures .1 with
     expr .expr .ensures .1 with expect2 .expect2 .ensures .1 with expect3 .expect3 .ensures .1 taking item .item .ensures .1 with
     at-list .list .ensures .1 adding node .node .ensures .1) refl)
@@ -109,8 +106,7 @@ abbrev pub item-cs : ℕ → Calls cycle.Lts-item.Claims
 item-cs t = calls-4 free-of begin-item (below cmd-rank t) set-size
 
 pub item-ok : {M : Type 1} (t : ℕ) → cycle.Lts-item.Closed (item-cs t .claims) (at item-rank t) (item-rank .post) M
-item-ok t =
-    cycle.Lts-item.spec (item-cs t .claims) (at item-rank t) (item-rank .post) (λ c κs. tt) (λ c κs. omega arith)
+item-ok t = cycle.Lts-item.spec (item-cs t .claims) (at item-rank t) (item-rank .post) (λ c κs. tt) (λ c κs. omega arith)
     (λ c κs. let begin-item = c .before .before .before .begin-item in
     pair (omega arith) (ready-takes (begin-item .ensures .1 .0) (begin-item .kept .0) (begin-item .ensures .0)))
     -- set-size-requires
@@ -129,8 +125,7 @@ abbrev pub list-cs : ℕ → Calls cycle.Lts-list.Claims
 list-cs t = calls-4 kind-here expect (below item-rank t) refuse
 
 abbrev list-inv : cycle.Lts-list.InvT-loop
-list-inv s₀ n levels turns₀ a₀ s turns a =
-    SoFar (Before encodeCommands) (moreUpTo turns₀ T.noCommands (C.listed (readers (within levels))))
+list-inv s₀ n levels turns₀ a₀ s turns a = SoFar (Before encodeCommands) (moreUpTo turns₀ T.noCommands (C.listed (readers (within levels))))
     (moreUpTo turns T.noCommands (C.listed (readers (within levels)))) s₀ s n a₀ a
 
 abbrev list-turns : cycle.Lts-list.MeasureT-loop
@@ -170,13 +165,11 @@ till-ok t =
     cycle.Lts-till.spec (till-cs t .claims) (at till-rank t) (till-rank .post) (λ c κs. omega arith) (λ c κs. omega arith) (λ c κs. omega arith)
     (λ c κs. pair (past-symbol refl (c .before .expect2 .ensures)) (omega arith)) (λ c κs. omega arith)
     (λ c κs. let item = c .before .before .before .item in
-    pair (omega arith) (ready-takes (item .ensures .1 .0) (item .kept .0) (item .ensures .0 .1)))
-    (λ c. omega arith)
+    pair (omega arith) (ready-takes (item .ensures .1 .0) (item .kept .0) (item .ensures .0 .1))) (λ c. omega arith)
     (λ c. no-commands _ (c .before .before .before .kind-here .ensures .1) (c .before .before .match .keys1) (c .expect .ensures .1))
     (λ c. omega arith)
     (λ c. semicolon-commands _ (c .before .before .before .before .before .kind-here .ensures .1) (c .before .before .before .before .match .keys2)
-    (c .before .before .expect2 .ensures .1) (c .expect3 .ensures .1))
-    (λ c. omega arith)
+    (c .before .before .expect2 .ensures .1) (c .expect3 .ensures .1)) (λ c. omega arith)
     -- returns-3
     (λ c. let list = c .before .before in let item = list .before .before .before .before in let after-match = item .before .before in
     let kind-here = after-match .before in some-commands _ (kind-here .kind-here .ensures .1) (after-match .match .rest) (item .item .ensures .1)
@@ -186,8 +179,7 @@ abbrev pub block-cs : ℕ → Calls cycle.Lts-block.Claims
 block-cs t = calls-6 free-of expect (below lets-rank t) minus (below till-rank t) node
 
 pub block-ok : {M : Type 1} (t : ℕ) → cycle.Lts-block.Closed (block-cs t .claims) (at block-rank t) (block-rank .post) M
-block-ok t =
-    cycle.Lts-block.spec (block-cs t .claims) (at block-rank t) (block-rank .post) (λ c κs. tt) (λ c κs. omega arith)
+block-ok t = cycle.Lts-block.spec (block-cs t .claims) (at block-rank t) (block-rank .post) (λ c κs. tt) (λ c κs. omega arith)
     (λ c κs. pair (omega arith) (past-symbol refl (c .before .expect .ensures))) (λ c κs. tt) (λ c κs. tt)
     -- till-requires
     (λ c κs. pair (omega arith) (ready-leaves (c .before .before .before .before .before .before .lets .ensures .1 .0)
@@ -202,8 +194,7 @@ block-ok t =
     -- returns
     (λ c. let node = c .before .before in let till = node .before .before .before .before in let minus = till .before .before in
     let free-of2 = minus .before in let lets = free-of2 .before .before .before .before in let expect = lets .before .before in
-    let free-of = expect .before .before in leaves
-    ((λ src l a b c. block-read l _ _ (free-of .free-of .ensures .1) a b c
+    let free-of = expect .before .before in leaves ((λ src l a b c. block-read l _ _ (free-of .free-of .ensures .1) a b c
     (measured _ _ (minus .minus .ensures .1) (free-of2 .free-of2 .ensures .1) (lets .lets .kept .0))) from expect .expect .ensures .1 with
     lets .lets .ensures .1 with till .till .ensures .1 adding node .node .ensures .1) refl)
 
@@ -222,8 +213,7 @@ pub lets-ok : {M : Type 1} (t : ℕ) → cycle.Lts-lets.Closed (lets-cs t .claim
 lets-ok t =
     cycle.Lts-lets.spec (lets-cs t .claims) (at lets-rank t) (lets-rank .post) lets-inv lets-turns (λ c. so-begins (c .before .pre .1) before-first)
     (λ c κs. ready-leaves (c .before .before .loop .inv .room) (c .before .before .loop .inv .same) refl (c .before .before .before .before .pre .1))
-    (λ c. omega arith)
-    (λ c. many-ends _ _ _ _ before-last (wordless no-local-words) refl (c .before .before .before .before .loop .inv)
+    (λ c. omega arith) (λ c. many-ends _ _ _ _ before-last (wordless no-local-words) refl (c .before .before .before .before .loop .inv)
     (c .before .kind-here .ensures .1) (ne-eqb _ _ (c .if1 .taken)))
     (λ c κs. pair (omega arith) (ready-leaves (c .before .before .before .before .before .loop .inv .room)
     (c .before .before .before .before .before .loop .inv .same) refl (c .before .before .before .before .before .before .before .pre .1)))
@@ -239,14 +229,12 @@ abbrev pub local-cs : ℕ → Calls cycle.Lts-local.Claims
 local-cs t = calls-9 free-of expect begin-item a-name further-names minus (below init-rank t) optional set-size
 
 pub local-ok : {M : Type 1} (t : ℕ) → cycle.Lts-local.Closed (local-cs t .claims) (at local-rank t) (local-rank .post) M
-local-ok t =
-    cycle.Lts-local.spec (local-cs t .claims) (at local-rank t) (local-rank .post) (λ c κs. tt) (λ c κs. omega arith)
+local-ok t = cycle.Lts-local.spec (local-cs t .claims) (at local-rank t) (local-rank .post) (λ c κs. tt) (λ c κs. omega arith)
     (λ c κs. past-symbol refl (c .before .expect .ensures)) (λ c κs. tt)
     (λ c κs. let begin-item = c .before .before .before .before .before .begin-item in
     ready-takes (begin-item .ensures .1 .0) (begin-item .kept .0) (begin-item .ensures .0))
     (λ c κs. let e = c .before .before .before .a-name in ready-leaves (e .ensures .1 .0) (e .kept .0) refl (e .ensures .0)) (λ c κs. tt) (λ c κs. tt)
-    (λ c κs. tt)
-    (λ c κs. let e = c .before .before .before .before .before .before .before .before .further-names in
+    (λ c κs. tt) (λ c κs. let e = c .before .before .before .before .before .before .before .before .further-names in
     pair (ready-leaves (e .ensures .1 .0) (e .kept .0) refl (e .ensures .0)) (omega arith))
     -- init-requires
     (λ c κs. let expect2 = c .before in let start = expect2 .before .before .before .before .before .before .before .before .before .before .before
@@ -283,10 +271,8 @@ local-ok t =
     (begin-item .begin-item .kept .0)) (omega (
       arith,
       minus .minus .ensures .1,
-      freed _ (free-of3 .free-of3 .ensures .1)
-          (further-names .further-names .kept .0 ∙ a-name .a-name .kept .0 ∙ begin-item .begin-item .kept .0),
-      freed _ (free-of4 .free-of4 .ensures .1)
-          (further-names .further-names .kept .0 ∙ a-name .a-name .kept .0 ∙ begin-item .begin-item .kept .0),
+      freed _ (free-of3 .free-of3 .ensures .1) (further-names .further-names .kept .0 ∙ a-name .a-name .kept .0 ∙ begin-item .begin-item .kept .0),
+      freed _ (free-of4 .free-of4 .ensures .1) (further-names .further-names .kept .0 ∙ a-name .a-name .kept .0 ∙ begin-item .begin-item .kept .0),
     )) (expect .expect .ensures .1 .1 src l)
     (begin-item .begin-item .ensures .1 .1) (a-name .a-name .ensures .1 .1 src l₁) (further-names .further-names .ensures .1 .1 src l₂)
     (expect2 .expect2 .ensures .1 .1 src l₃) (λ name names q e. init .init .ensures .1 .1 src l₃ .1 name names q (ap (λ (z : ℕ). freeOf z
@@ -297,8 +283,7 @@ abbrev pub init-cs : ℕ → Calls cycle.Lts-init.Claims
 init-cs t = calls-8 kind-here is-vector vector free-of minus (below arg-rank t) (below rest-rank t) node
 
 pub init-ok : {M : Type 1} (t : ℕ) → cycle.Lts-init.Closed (init-cs t .claims) (at init-rank t) (init-rank .post) M
-init-ok t =
-    cycle.Lts-init.spec (init-cs t .claims) (at init-rank t) (init-rank .post) (λ c κs. omega arith) (λ c κs. tt) (λ c κs. omega arith)
+init-ok t = cycle.Lts-init.spec (init-cs t .claims) (at init-rank t) (init-rank .post) (λ c κs. omega arith) (λ c κs. tt) (λ c κs. omega arith)
     (λ c. omega arith)
     -- returns
     (λ c. let vector = c .before .before in let if1 = vector .before .before in let is-vector = if1 .before in let kind-here = is-vector .before in
@@ -313,8 +298,7 @@ init-ok t =
       q,
       v .1,
     ))))))))
-    (λ c κs. tt) (λ c κs. tt) (λ c κs. omega arith)
-    (λ c κs. let arg = c .before .before .before .arg in
+    (λ c κs. tt) (λ c κs. tt) (λ c κs. omega arith) (λ c κs. let arg = c .before .before .before .arg in
     pair (omega arith) (ready-takes (arg .ensures .1 .0) (arg .kept .0) (ready-part (arg .ensures .0 .1) refl)))
     -- cast-node
     (λ c. let arg = c .before .before .before .before .before .before .before in let minus = arg .before .before in let free-of = minus .before in

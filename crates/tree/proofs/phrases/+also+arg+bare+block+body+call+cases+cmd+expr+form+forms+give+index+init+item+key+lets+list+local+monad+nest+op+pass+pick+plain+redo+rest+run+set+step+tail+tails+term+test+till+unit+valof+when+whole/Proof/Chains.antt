@@ -28,8 +28,7 @@ expr-cs t =
     (below run-rank t) node
 
 pub expr-ok : {M : Type 1} (t : ℕ) → cycle.Lts-expr.Closed (expr-cs t .claims) (at expr-rank t) (expr-rank .post) M
-expr-ok t =
-    cycle.Lts-expr.spec (expr-cs t .claims) (at expr-rank t) (expr-rank .post) (λ c κs. omega arith) (λ c. omega arith)
+expr-ok t = cycle.Lts-expr.spec (expr-cs t .claims) (at expr-rank t) (expr-rank .post) (λ c κs. omega arith) (λ c. omega arith)
     (λ c. expression-none _ _ (c .before .before .before .before .if1 .taken) (c .before .before .term .ensures .1)) (λ c κs. omega arith)
     (λ c κs. (omega arith, (c .before .before .before .before .before .before .before .pre .1 .0, omega arith))) (λ c. omega arith)
     -- returns-2
@@ -90,10 +89,8 @@ abbrev pub op-cs : ℕ → Calls cycle.Lts-op.Claims
 op-cs t = calls-5 free-of expect begin-item (below expr-rank t) set-size
 
 pub op-ok : {M : Type 1} (t : ℕ) → cycle.Lts-op.Closed (op-cs t .claims) (at op-rank t) (op-rank .post) M
-op-ok t =
-    cycle.Lts-op.spec (op-cs t .claims) (at op-rank t) (op-rank .post) (λ c κs. tt) (λ c κs. omega arith)
-    (λ c κs. past-symbol refl (c .before .expect .ensures))
-    (λ c κs. let begin-item = c .before .before .before .begin-item in
+op-ok t = cycle.Lts-op.spec (op-cs t .claims) (at op-rank t) (op-rank .post) (λ c κs. tt) (λ c κs. omega arith)
+    (λ c κs. past-symbol refl (c .before .expect .ensures)) (λ c κs. let begin-item = c .before .before .before .begin-item in
     pair (omega arith) (pair (ready-takes (begin-item .ensures .1 .0) (begin-item .kept .0) (begin-item .ensures .0)) (omega arith)))
     -- set-size-requires
     (λ c κs. let expr = c .before .before .before in let expect = expr .before .before .before .before .before .before in
@@ -111,8 +108,7 @@ abbrev pub run-cs : ℕ → Calls cycle.Lts-run.Claims
 run-cs t = calls-4 further-most kind-here binding-of (below op-rank t)
 
 abbrev run-inv : cycle.Lts-run.InvT-loop
-run-inv s₀ n levels binding right turns₀ a₀ s turns a =
-    SoFar (Before encodeOperations)
+run-inv s₀ n levels binding right turns₀ a₀ s turns a = SoFar (Before encodeOperations)
     (manyUpTo turns₀ T.noOperations (λ kind. eqb (bindingOf kind) binding) (E.operation (E.expression (within levels) right)))
     (manyUpTo turns T.noOperations (λ kind. eqb (bindingOf kind) binding) (E.operation (E.expression (within levels) right))) s₀ s n a₀ a
 
@@ -120,12 +116,10 @@ abbrev run-turns : cycle.Lts-run.MeasureT-loop
 run-turns s₀ n levels binding right turns₀ a₀ s turns a = turns
 
 pub run-ok : {M : Type 1} (t : ℕ) → cycle.Lts-run.Closed (run-cs t .claims) (at run-rank t) (run-rank .post) M
-run-ok t =
-    cycle.Lts-run.spec (run-cs t .claims) (at run-rank t) (run-rank .post) run-inv run-turns (λ c κs. tt)
+run-ok t = cycle.Lts-run.spec (run-cs t .claims) (at run-rank t) (run-rank .post) run-inv run-turns (λ c κs. tt)
     (λ c. so-begins (c .before .before .pre .1 .0) before-first)
     (λ c κs. ready-leaves (c .before .before .loop .inv .room) (c .before .before .loop .inv .same) refl
-    (c .before .before .before .before .before .pre .1 .0))
-    (λ c κs. tt) (λ c. omega arith)
+    (c .before .before .before .before .before .pre .1 .0)) (λ c κs. tt) (λ c. omega arith)
     -- returns
     (λ c. let binding-of = c .before in let kind-here = binding-of .before in let in-loop = kind-here .before .before .before in
     let further-most = in-loop .before in many-ends _ _ _ _ before-last (wordless no-operation-words) (further-most .further-most .ensures .1)
@@ -149,8 +143,7 @@ abbrev pub term-cs : ℕ → Calls cycle.Lts-term.Claims
 term-cs t = calls-4 kind-here is-monadic (below monad-rank t) (below whole-rank t)
 
 pub term-ok : {M : Type 1} (t : ℕ) → cycle.Lts-term.Closed (term-cs t .claims) (at term-rank t) (term-rank .post) M
-term-ok t =
-    cycle.Lts-term.spec (term-cs t .claims) (at term-rank t) (term-rank .post) (λ c κs. omega arith) (λ c κs. tt)
+term-ok t = cycle.Lts-term.spec (term-cs t .claims) (at term-rank t) (term-rank .post) (λ c κs. omega arith) (λ c κs. tt)
     -- monad-requires
     (λ c κs. let if1 = c .before in let is-monadic = if1 .before in let start = is-monadic .before .before .before .before in
     pair (omega arith) (pair (start .pre .1) (monadic-positive _ (is-monadic .is-monadic .ensures .1) (if1 .if1 .taken))))
@@ -167,13 +160,11 @@ abbrev pub monad-cs : ℕ → Calls cycle.Lts-monad.Claims
 monad-cs t = calls-7 refuse free-of place-here expect reach-of (below expr-rank t) node
 
 pub monad-ok : {M : Type 1} (t : ℕ) → cycle.Lts-monad.Closed (monad-cs t .claims) (at monad-rank t) (monad-rank .post) M
-monad-ok t =
-    cycle.Lts-monad.spec (monad-cs t .claims) (at monad-rank t) (monad-rank .post) (λ c κs. omega arith) (λ c. omega arith)
+monad-ok t = cycle.Lts-monad.spec (monad-cs t .claims) (at monad-rank t) (monad-rank .post) (λ c κs. omega arith) (λ c. omega arith)
     (λ c. monadic-shut _ (c .before .before .if1 .taken) (c .refuse .ensures .1)) (λ c κs. tt) (λ c κs. omega arith) (λ c κs. omega arith)
     (λ c. omega arith) (λ c κs. tt) (λ c κs. pair (omega arith) (pair (past-symbol refl (c .before .before .expect .ensures)) (omega arith)))
     (λ c κs. ready-leaves (c .before .before .before .expr .ensures .1 .0) (c .before .before .before .expr .kept .0) refl
-    (past-symbol refl (c .before .before .before .before .before .before .expect .ensures)))
-    (λ c. omega arith)
+    (past-symbol refl (c .before .before .before .before .before .before .expect .ensures))) (λ c. omega arith)
     -- returns-2
     (λ c. let node = c .before .before in let expr = node .before .before .before .before in let reach-of = expr .before in
     let expect = reach-of .before .before in let place-here = expect .before .before in let free-of = place-here .before .before in

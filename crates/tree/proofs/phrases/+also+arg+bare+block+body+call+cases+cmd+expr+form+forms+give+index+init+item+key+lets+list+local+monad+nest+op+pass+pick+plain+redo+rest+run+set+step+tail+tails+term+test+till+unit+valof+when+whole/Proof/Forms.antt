@@ -46,8 +46,7 @@ abbrev pub cases-cs : ℕ → Calls cycle.Lts-cases.Claims
 cases-cs t = calls-6 free-of label labels minus (below body-rank t) node
 
 pub cases-ok : {M : Type 1} (t : ℕ) → cycle.Lts-cases.Closed (cases-cs t .claims) (at cases-rank t) (cases-rank .post) M
-cases-ok t =
-    cycle.Lts-cases.spec (cases-cs t .claims) (at cases-rank t) (cases-rank .post) (λ c κs. tt) (λ c κs. omega arith)
+cases-ok t = cycle.Lts-cases.spec (cases-cs t .claims) (at cases-rank t) (cases-rank .post) (λ c κs. tt) (λ c κs. omega arith)
     (λ c κs. let e = c .before .before .before .label in ready-leaves (e .ensures .1 .0) (e .kept .0) refl (e .ensures .0)) (λ c κs. tt) (λ c κs. tt)
     (λ c κs. let e = c .before .before .before .before .before .before .labels in
     pair (omega arith) (ready-leaves (e .ensures .1 .0) (e .kept .0) refl (e .ensures .0)))
@@ -57,8 +56,7 @@ cases-ok t =
     -- node-requires
     (λ c κs. let body = c .before .before .before in let labels = body .before .before .before .before .before .before .before in
     let label = labels .before .before .before .before in
-    ready-leaves (body .body .ensures .1 .0) (body .body .kept .0) refl
-    (ready-leaves (labels .labels .ensures .1 .0) (labels .labels .kept .0) refl
+    ready-leaves (body .body .ensures .1 .0) (body .body .kept .0) refl (ready-leaves (labels .labels .ensures .1 .0) (labels .labels .kept .0) refl
     (ready-leaves (label .label .ensures .1 .0) (label .label .kept .0) refl (label .label .ensures .0))))
     (λ c. omega arith)
     -- returns
@@ -76,8 +74,7 @@ abbrev pub body-cs : ℕ → Calls cycle.Lts-body.Claims
 body-cs t = calls-4 kind-here begins-command refuse (below redo-rank t)
 
 pub body-ok : {M : Type 1} (t : ℕ) → cycle.Lts-body.Closed (body-cs t .claims) (at body-rank t) (body-rank .post) M
-body-ok t =
-    cycle.Lts-body.spec (body-cs t .claims) (at body-rank t) (body-rank .post) (λ c κs. omega arith) (λ c κs. tt) (λ c κs. omega arith)
+body-ok t = cycle.Lts-body.spec (body-cs t .claims) (at body-rank t) (body-rank .post) (λ c κs. omega arith) (λ c κs. tt) (λ c κs. omega arith)
     (λ c. omega arith)
     -- returns
     (λ c. let if2 = c .before .before in let if1 = if2 .before in let begins-command = if1 .before in let kind-here = begins-command .before in
@@ -104,8 +101,7 @@ abbrev pub redo-cs : ℕ → Calls cycle.Lts-redo.Claims
 redo-cs t = calls-8 free-of (below plain-rank t) kind-here is-repeat minus (below form-rank t) (below forms-rank t) node
 
 pub redo-ok : {M : Type 1} (t : ℕ) → cycle.Lts-redo.Closed (redo-cs t .claims) (at redo-rank t) (redo-rank .post) M
-redo-ok t =
-    cycle.Lts-redo.spec (redo-cs t .claims) (at redo-rank t) (redo-rank .post) (λ c κs. tt) (λ c κs. omega arith)
+redo-ok t = cycle.Lts-redo.spec (redo-cs t .claims) (at redo-rank t) (redo-rank .post) (λ c κs. tt) (λ c κs. omega arith)
     (λ c κs. let e = c .before .before .before .plain in past-part refl (e .ensures) (e .kept .0)) (λ c κs. tt) (λ c κs. tt) (λ c κs. tt)
     -- form-requires
     (λ c κs. let if1 = c .before .before .before .before in let is-repeat = if1 .before in let kind-here = is-repeat .before in
@@ -122,8 +118,7 @@ redo-ok t =
     -- node-requires
     (λ c κs. let forms = c .before .before .before in let form = forms .before .before .before .before in
     let plain = form .before .before .before .before .before .before .before .before .before .before .before in
-    ready-leaves (forms .forms .ensures .1 .0) (forms .forms .kept .0) refl
-    (ready-leaves (form .form .ensures .1 .0) (form .form .kept .0) refl
+    ready-leaves (forms .forms .ensures .1 .0) (forms .forms .kept .0) refl (ready-leaves (form .form .ensures .1 .0) (form .form .kept .0) refl
     (ready-leaves (plain .plain .ensures .1 .0) (plain .plain .kept .0) refl (plain .plain .ensures .0 .1))))
     (λ c. omega arith)
     -- returns
@@ -154,12 +149,10 @@ abbrev forms-turns : cycle.Lts-forms.MeasureT-loop
 forms-turns s₀ n levels turns₀ a₀ s turns a = turns
 
 pub forms-ok : {M : Type 1} (t : ℕ) → cycle.Lts-forms.Closed (forms-cs t .claims) (at forms-rank t) (forms-rank .post) M
-forms-ok t =
-    cycle.Lts-forms.spec (forms-cs t .claims) (at forms-rank t) (forms-rank .post) forms-inv forms-turns (λ c κs. tt)
+forms-ok t = cycle.Lts-forms.spec (forms-cs t .claims) (at forms-rank t) (forms-rank .post) forms-inv forms-turns (λ c κs. tt)
     (λ c. so-begins (c .before .before .pre .1) before-first)
     (λ c κs. ready-leaves (c .before .before .loop .inv .room) (c .before .before .loop .inv .same) refl
-    (c .before .before .before .before .before .pre .1))
-    (λ c κs. tt)
+    (c .before .before .before .before .before .pre .1)) (λ c κs. tt)
     -- form-requires
     (λ c κs. let if1 = c .before in let is-repeat = if1 .before in let at-loop = is-repeat .before .before .before .before in
     let start = at-loop .before .before .before in
@@ -183,8 +176,7 @@ abbrev pub form-cs : ℕ → Calls cycle.Lts-form.Claims
 form-cs t = calls-5 free-of expect begin-item (below expr-rank t) set-size
 
 pub form-ok : {M : Type 1} (t : ℕ) → cycle.Lts-form.Closed (form-cs t .claims) (at form-rank t) (form-rank .post) M
-form-ok t =
-    cycle.Lts-form.spec (form-cs t .claims) (at form-rank t) (form-rank .post) (λ c κs. tt) (λ c κs. omega arith)
+form-ok t = cycle.Lts-form.spec (form-cs t .claims) (at form-rank t) (form-rank .post) (λ c κs. tt) (λ c κs. omega arith)
     (λ c κs. past-symbol refl (c .before .expect .ensures)) (λ c. omega arith)
     -- returns
     (λ c. let begin-item = c .before .before .before in let expect = begin-item .before .before in
@@ -210,8 +202,7 @@ plain-cs t =
     (below block-rank t) (below bare-rank t)
 
 pub plain-ok : {M : Type 1} (t : ℕ) → cycle.Lts-plain.Closed (plain-cs t .claims) (at plain-rank t) (plain-rank .post) M
-plain-ok t =
-    cycle.Lts-plain.spec (plain-cs t .claims) (at plain-rank t) (plain-rank .post) (λ c κs. omega arith) (λ c κs. tt)
+plain-ok t = cycle.Lts-plain.spec (plain-cs t .claims) (at plain-rank t) (plain-rank .post) (λ c κs. omega arith) (λ c κs. tt)
     -- when-requires
     (λ c κs. let if1 = c .before in let is-guard = if1 .before in let start = is-guard .before .before .before .before in
     pair (omega arith) (pair (start .pre .1) (guard-positive _ (is-guard .is-guard .ensures .1) (if1 .if1 .taken))))
@@ -232,20 +223,15 @@ plain-ok t =
     (λ c κs. omega arith) (λ c κs. omega arith) (λ c κs. omega arith) (λ c κs. omega arith) (λ c κs. omega arith) (λ c κs. omega arith)
     (λ c. omega arith)
     (λ c. unlabelled-test _ (c .before .before .before .before .before .before .before .before .before .kind-here .ensures .1)
-    (c .before .before .before .before .match .keys1) (c .before .before .test .ensures .1))
-    (λ c. omega arith)
+    (c .before .before .before .before .match .keys1) (c .before .before .test .ensures .1)) (λ c. omega arith)
     (λ c. unlabelled-for _ (c .before .before .before .before .before .before .before .before .before .kind-here .ensures .1)
-    (c .before .before .before .before .match .keys2) (c .before .before .step .ensures .1))
-    (λ c. omega arith)
+    (c .before .before .before .before .match .keys2) (c .before .before .step .ensures .1)) (λ c. omega arith)
     (λ c. unlabelled-switchon _ (c .before .before .before .before .before .before .before .before .before .kind-here .ensures .1)
-    (c .before .before .before .before .match .keys3) (c .before .before .pick .ensures .1))
-    (λ c. omega arith)
+    (c .before .before .before .before .match .keys3) (c .before .before .pick .ensures .1)) (λ c. omega arith)
     (λ c. unlabelled-resultis _ (c .before .before .before .before .before .before .before .before .before .kind-here .ensures .1)
-    (c .before .before .before .before .match .keys4) (c .before .before .give .ensures .1))
-    (λ c. omega arith)
+    (c .before .before .before .before .match .keys4) (c .before .before .give .ensures .1)) (λ c. omega arith)
     (λ c. unlabelled-block _ (c .before .before .before .before .before .before .before .before .before .kind-here .ensures .1)
-    (c .before .before .before .before .match .keys5) (c .before .before .block .ensures .1))
-    (λ c. omega arith)
+    (c .before .before .before .before .match .keys5) (c .before .before .block .ensures .1)) (λ c. omega arith)
     -- returns-8
     (λ c. let bare = c .before .before in let after-match = bare .before .before in let if2 = after-match .before in let is-leave = if2 .before in
     let if1 = is-leave .before in let is-guard = if1 .before in let kind-here = is-guard .before in
@@ -256,16 +242,14 @@ abbrev pub test-cs : ℕ → Calls cycle.Lts-test.Claims
 test-cs t = calls-5 free-of expect (below expr-rank t) (below cmd-rank t) node
 
 pub test-ok : {M : Type 1} (t : ℕ) → cycle.Lts-test.Closed (test-cs t .claims) (at test-rank t) (test-rank .post) M
-test-ok t =
-    cycle.Lts-test.spec (test-cs t .claims) (at test-rank t) (test-rank .post) (λ c κs. tt) (λ c κs. omega arith)
+test-ok t = cycle.Lts-test.spec (test-cs t .claims) (at test-rank t) (test-rank .post) (λ c κs. tt) (λ c κs. omega arith)
     (λ c κs. pair (omega arith) (pair (past-symbol refl (c .before .expect .ensures)) (omega arith)))
     (λ c κs. let e = c .before .before .before .expr in pair (past-expression refl (e .ensures) (e .kept .0)) (omega arith))
     (λ c κs. pair (omega arith) (past-symbol refl (c .before .expect2 .ensures)))
     (λ c κs. let e = c .before .before .before .cmd in pair (past-part refl (e .ensures) (e .kept .0)) (omega arith))
     (λ c κs. pair (omega arith) (past-symbol refl (c .before .expect3 .ensures)))
     (λ c κs. ready-leaves (c .before .before .before .cmd2 .ensures .1 .0) (c .before .before .before .cmd2 .kept .0) refl
-    (past-symbol refl (c .before .before .before .before .before .expect3 .ensures)))
-    (λ c. omega arith)
+    (past-symbol refl (c .before .before .before .before .before .expect3 .ensures))) (λ c. omega arith)
     -- returns
     (λ c. let node = c .before .before in let cmd2 = node .before .before .before .before in let expect3 = cmd2 .before .before in
     let cmd = expect3 .before .before .before .before in let expect2 = cmd .before .before in let expr = expect2 .before .before .before .before in
@@ -278,14 +262,12 @@ abbrev pub when-cs : ℕ → Calls cycle.Lts-when.Claims
 when-cs t = calls-5 free-of expect (below expr-rank t) (below cmd-rank t) node
 
 pub when-ok : {M : Type 1} (t : ℕ) → cycle.Lts-when.Closed (when-cs t .claims) (at when-rank t) (when-rank .post) M
-when-ok t =
-    cycle.Lts-when.spec (when-cs t .claims) (at when-rank t) (when-rank .post) (λ c κs. tt) (λ c κs. omega arith)
+when-ok t = cycle.Lts-when.spec (when-cs t .claims) (at when-rank t) (when-rank .post) (λ c κs. tt) (λ c κs. omega arith)
     (λ c κs. pair (omega arith) (pair (past-symbol refl (c .before .expect .ensures)) (omega arith)))
     (λ c κs. let e = c .before .before .before .expr in pair (past-expression refl (e .ensures) (e .kept .0)) (omega arith))
     (λ c κs. pair (omega arith) (past-symbol refl (c .before .expect2 .ensures)))
     (λ c κs. ready-leaves (c .before .before .before .cmd .ensures .1 .0) (c .before .before .before .cmd .kept .0) refl
-    (past-symbol refl (c .before .before .before .before .before .expect2 .ensures)))
-    (λ c. omega arith)
+    (past-symbol refl (c .before .before .before .before .before .expect2 .ensures))) (λ c. omega arith)
     -- returns
     (λ c. let node = c .before .before in let cmd = node .before .before .before .before in let expect2 = cmd .before .before in
     let expr = expect2 .before .before .before .before in let expect = expr .before .before in let free-of = expect .before .before in
@@ -296,12 +278,10 @@ abbrev pub give-cs : ℕ → Calls cycle.Lts-give.Claims
 give-cs t = calls-5 free-of place-here expect (below expr-rank t) node
 
 pub give-ok : {M : Type 1} (t : ℕ) → cycle.Lts-give.Closed (give-cs t .claims) (at give-rank t) (give-rank .post) M
-give-ok t =
-    cycle.Lts-give.spec (give-cs t .claims) (at give-rank t) (give-rank .post) (λ c κs. tt) (λ c κs. omega arith) (λ c κs. omega arith)
+give-ok t = cycle.Lts-give.spec (give-cs t .claims) (at give-rank t) (give-rank .post) (λ c κs. tt) (λ c κs. omega arith) (λ c κs. omega arith)
     (λ c κs. pair (omega arith) (pair (past-symbol refl (c .before .expect .ensures)) (omega arith)))
     (λ c κs. ready-leaves (c .before .before .before .expr .ensures .1 .0) (c .before .before .before .expr .kept .0) refl
-    (past-symbol refl (c .before .before .before .before .before .expect .ensures)))
-    (λ c. omega arith)
+    (past-symbol refl (c .before .before .before .before .before .expect .ensures))) (λ c. omega arith)
     -- returns
     (λ c. let node = c .before .before in let expr = node .before .before .before .before in let expect = expr .before .before in
     let place-here = expect .before .before in let free-of = place-here .before .before in
@@ -312,8 +292,7 @@ abbrev pub bare-cs : ℕ → Calls cycle.Lts-bare.Claims
 bare-cs t = calls-7 free-of (below expr-rank t) kind-here goes-on-assignment (below set-rank t) is-call refuse
 
 pub bare-ok : {M : Type 1} (t : ℕ) → cycle.Lts-bare.Closed (bare-cs t .claims) (at bare-rank t) (bare-rank .post) M
-bare-ok t =
-    cycle.Lts-bare.spec (bare-cs t .claims) (at bare-rank t) (bare-rank .post) (λ c κs. tt) (λ c κs. omega arith)
+bare-ok t = cycle.Lts-bare.spec (bare-cs t .claims) (at bare-rank t) (bare-rank .post) (λ c κs. tt) (λ c κs. omega arith)
     (λ c κs. let e = c .before .before .before .expr in past-expression refl (e .ensures) (e .kept .0)) (λ c κs. tt)
     (λ c κs. pair (omega arith) (c .before .before .before .kind-here .ensures .0)) (λ c. omega arith)
     -- returns

@@ -35,8 +35,7 @@ module _ (m : Member) (t : ℕ) where
 
 -- the functions outside the cycle
 abbrev pub begins-command : Callee
-begins-command =
-    callee b.begins_command.Kinds.ps b.begins_command.Kinds.r b.begins_command.Reads.Asked b.begins_command.Reads.Learnt
+begins-command = callee b.begins_command.Kinds.ps b.begins_command.Kinds.r b.begins_command.Reads.Asked b.begins_command.Reads.Learnt
     "tree::binding::begins_command"
 
 abbrev pub binding-of : Callee
@@ -191,29 +190,25 @@ calls-8 a b c d e f g h = calls (a ∷ b ∷ c ∷ d ∷ e ∷ f ∷ g ∷ h ∷
 
 abbrev pub calls-9 :
     (a b c d e f g h i : Callee) → Calls (I a × O a × I b × O b × I c × O c × I d × O d × I e × O e × I f × O f × I g × O g × I h × O h × I i × O i)
-calls-9 a b c d e f g h i =
-    calls (a ∷ b ∷ c ∷ d ∷ e ∷ f ∷ g ∷ h ∷ i ∷ [])
+calls-9 a b c d e f g h i = calls (a ∷ b ∷ c ∷ d ∷ e ∷ f ∷ g ∷ h ∷ i ∷ [])
     (P a, Q a, P b, Q b, P c, Q c, P d, Q d, P e, Q e, P f, Q f, P g, Q g, P h, Q h, P i, Q i)
 
 abbrev pub calls-10 :
     (a b c d e f g h i j : Callee) → Calls (I a × O a × I b × O b × I c × O c × I d × O d × I e × O e × I f × O f × I g × O g × I h × O h × I i × O i
     × I j × O j)
-calls-10 a b c d e f g h i j =
-    calls (a ∷ b ∷ c ∷ d ∷ e ∷ f ∷ g ∷ h ∷ i ∷ j ∷ [])
+calls-10 a b c d e f g h i j = calls (a ∷ b ∷ c ∷ d ∷ e ∷ f ∷ g ∷ h ∷ i ∷ j ∷ [])
     (P a, Q a, P b, Q b, P c, Q c, P d, Q d, P e, Q e, P f, Q f, P g, Q g, P h, Q h, P i, Q i, P j, Q j)
 
 abbrev pub calls-11 :
     (a b c d e f g h i j k : Callee) → Calls (I a × O a × I b × O b × I c × O c × I d × O d × I e × O e × I f × O f × I g × O g × I h × O h × I i × O
     i × I j × O j × I k × O k)
-calls-11 a b c d e f g h i j k =
-    calls (a ∷ b ∷ c ∷ d ∷ e ∷ f ∷ g ∷ h ∷ i ∷ j ∷ k ∷ [])
+calls-11 a b c d e f g h i j k = calls (a ∷ b ∷ c ∷ d ∷ e ∷ f ∷ g ∷ h ∷ i ∷ j ∷ k ∷ [])
     (P a, Q a, P b, Q b, P c, Q c, P d, Q d, P e, Q e, P f, Q f, P g, Q g, P h, Q h, P i, Q i, P j, Q j, P k, Q k)
 
 abbrev pub calls-12 :
     (a b c d e f g h i j k l : Callee) → Calls (I a × O a × I b × O b × I c × O c × I d × O d × I e × O e × I f × O f × I g × O g × I h × O h × I i ×
     O i × I j × O j × I k × O k × I l × O l)
-calls-12 a b c d e f g h i j k l =
-    calls (a ∷ b ∷ c ∷ d ∷ e ∷ f ∷ g ∷ h ∷ i ∷ j ∷ k ∷ l ∷ [])
+calls-12 a b c d e f g h i j k l = calls (a ∷ b ∷ c ∷ d ∷ e ∷ f ∷ g ∷ h ∷ i ∷ j ∷ k ∷ l ∷ [])
     (P a, Q a, P b, Q b, P c, Q c, P d, Q d, P e, Q e, P f, Q f, P g, Q g, P h, Q h, P i, Q i, P j, Q j, P k, Q k, P l, Q l)
 
 -- the functions of the cycle
@@ -242,8 +237,7 @@ abbrev pub cmd-rank : Member
 cmd-rank = member of.cmd.Kinds.ps of.cmd.Kinds.r (λ κs a. a .1 .1 .0 * 64 + 55) of.cmd.Reads.Pre of.cmd.Reads.Post "tree::phrases::cmd"
 
 abbrev pub expr-rank : Member
-expr-rank =
-    member of.expr.Kinds.ps of.expr.Kinds.r (λ κs a. a .1 .1 .0 * 64 + a .1 .1 .1 .0 * 4 + 20) of.expr.Reads.Pre of.expr.Reads.Post
+expr-rank = member of.expr.Kinds.ps of.expr.Kinds.r (λ κs a. a .1 .1 .0 * 64 + a .1 .1 .1 .0 * 4 + 20) of.expr.Reads.Pre of.expr.Reads.Post
     "tree::phrases::expr"
 
 abbrev pub form-rank : Member
@@ -301,8 +295,7 @@ abbrev pub rest-rank : Member
 rest-rank = member of.rest.Kinds.ps of.rest.Kinds.r (λ κs a. a .1 .1 .0 * 64 + 51) of.rest.Reads.Pre of.rest.Reads.Post "tree::phrases::rest"
 
 abbrev pub run-rank : Member
-run-rank =
-    member of.run.Kinds.ps of.run.Kinds.r (λ κs a. a .1 .1 .0 * 64 + a .1 .1 .1 .1 .0 * 4 + 22) of.run.Reads.Pre of.run.Reads.Post
+run-rank = member of.run.Kinds.ps of.run.Kinds.r (λ κs a. a .1 .1 .0 * 64 + a .1 .1 .1 .1 .0 * 4 + 22) of.run.Reads.Pre of.run.Reads.Post
     "tree::phrases::run"
 
 abbrev pub set-rank : Member

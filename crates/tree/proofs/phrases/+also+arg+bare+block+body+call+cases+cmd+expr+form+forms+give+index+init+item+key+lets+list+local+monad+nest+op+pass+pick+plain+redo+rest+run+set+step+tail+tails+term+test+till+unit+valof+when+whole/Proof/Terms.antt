@@ -35,8 +35,7 @@ abbrev pub whole-cs : ℕ → Calls cycle.Lts-whole.Claims
 whole-cs t = calls-10 free-of (below unit-rank t) kind-here is-suffix minus place-of (below tail-rank t) (below tails-rank t) suffixed-kind node
 
 pub whole-ok : {M : Type 1} (t : ℕ) → cycle.Lts-whole.Closed (whole-cs t .claims) (at whole-rank t) (whole-rank .post) M
-whole-ok t =
-    cycle.Lts-whole.spec (whole-cs t .claims) (at whole-rank t) (whole-rank .post) (λ c κs. tt) (λ c κs. omega arith)
+whole-ok t = cycle.Lts-whole.spec (whole-cs t .claims) (at whole-rank t) (whole-rank .post) (λ c κs. tt) (λ c κs. omega arith)
     (λ c κs. let e = c .before .before .before .unit in past-part refl (e .ensures) (e .kept .0)) (λ c κs. tt) (λ c κs. tt) (λ c κs. tt)
     (λ c κs. c .before .before .before .before .before .before .kind-here .ensures .0) (λ c κs. pair (omega arith) (c .before .place-of .ensures .0))
     -- tails-requires
@@ -92,8 +91,7 @@ abbrev pub nest-cs : ℕ → Calls cycle.Lts-nest.Claims
 nest-cs t = calls-6 refuse free-of place-here expect (below expr-rank t) node
 
 pub nest-ok : {M : Type 1} (t : ℕ) → cycle.Lts-nest.Closed (nest-cs t .claims) (at nest-rank t) (nest-rank .post) M
-nest-ok t =
-    cycle.Lts-nest.spec (nest-cs t .claims) (at nest-rank t) (nest-rank .post) (λ c κs. omega arith) (λ c. omega arith)
+nest-ok t = cycle.Lts-nest.spec (nest-cs t .claims) (at nest-rank t) (nest-rank .post) (λ c κs. omega arith) (λ c. omega arith)
     (λ c. bracketed-shut _ (c .before .before .if1 .taken) (c .refuse .ensures .1)) (λ c κs. tt) (λ c κs. omega arith) (λ c κs. omega arith)
     (λ c. omega arith) (λ c κs. pair (omega arith) (pair (past-symbol refl (c .before .expect .ensures)) (omega arith)))
     (λ c κs. let e = c .before .before .before .expr in pair (past-expression refl (e .ensures) (e .kept .0)) (omega arith))
@@ -109,13 +107,11 @@ abbrev pub valof-cs : ℕ → Calls cycle.Lts-valof.Claims
 valof-cs t = calls-6 refuse free-of place-here expect (below cmd-rank t) node
 
 pub valof-ok : {M : Type 1} (t : ℕ) → cycle.Lts-valof.Closed (valof-cs t .claims) (at valof-rank t) (valof-rank .post) M
-valof-ok t =
-    cycle.Lts-valof.spec (valof-cs t .claims) (at valof-rank t) (valof-rank .post) (λ c κs. omega arith) (λ c. omega arith)
+valof-ok t = cycle.Lts-valof.spec (valof-cs t .claims) (at valof-rank t) (valof-rank .post) (λ c κs. omega arith) (λ c. omega arith)
     (λ c. valof-shut _ (c .before .before .if1 .taken) (c .refuse .ensures .1)) (λ c κs. tt) (λ c κs. omega arith) (λ c κs. omega arith)
     (λ c. omega arith) (λ c κs. pair (omega arith) (past-symbol refl (c .before .expect .ensures)))
     (λ c κs. ready-leaves (c .before .before .before .cmd .ensures .1 .0) (c .before .before .before .cmd .kept .0) refl
-    (past-symbol refl (c .before .before .before .before .before .expect .ensures)))
-    (λ c. omega arith)
+    (past-symbol refl (c .before .before .before .before .before .expect .ensures))) (λ c. omega arith)
     -- returns-2
     (λ c. let node = c .before .before in let cmd = node .before .before .before .before in let expect = cmd .before .before in
     let place-here = expect .before .before in let free-of = place-here .before .before in let if1 = free-of .before .before in
@@ -126,8 +122,7 @@ abbrev pub tail-cs : ℕ → Calls cycle.Lts-tail.Claims
 tail-cs t = calls-2 (below call-rank t) (below index-rank t)
 
 pub tail-ok : {M : Type 1} (t : ℕ) → cycle.Lts-tail.Closed (tail-cs t .claims) (at tail-rank t) (tail-rank .post) M
-tail-ok t =
-    cycle.Lts-tail.spec (tail-cs t .claims) (at tail-rank t) (tail-rank .post) (λ c κs. omega arith) (λ c κs. omega arith) (λ c. omega arith)
+tail-ok t = cycle.Lts-tail.spec (tail-cs t .claims) (at tail-rank t) (tail-rank .post) (λ c κs. omega arith) (λ c κs. omega arith) (λ c. omega arith)
     (λ c. suffix-arguments _ (c .before .before .before .before .if1 .taken) (c .before .before .call .ensures .1)) (λ c. omega arith)
     (λ c. suffix-index _ (c .before .before .before .before .if1 .left) (c .before .before .index .ensures .1))
 
@@ -143,16 +138,13 @@ abbrev tails-turns : cycle.Lts-tails.MeasureT-loop
 tails-turns s₀ n levels first turns₀ call₀ a₀ s turns call a = turns
 
 pub tails-ok : {M : Type 1} (t : ℕ) → cycle.Lts-tails.Closed (tails-cs t .claims) (at tails-rank t) (tails-rank .post) M
-tails-ok t =
-    cycle.Lts-tails.spec (tails-cs t .claims) (at tails-rank t) (tails-rank .post) tails-inv tails-turns (λ c κs. tt)
+tails-ok t = cycle.Lts-tails.spec (tails-cs t .claims) (at tails-rank t) (tails-rank .post) tails-inv tails-turns (λ c κs. tt)
     (λ c. so-begins (c .before .before .pre .1) suffix-first)
     (λ c κs. ready-leaves (c .before .before .loop .inv .room) (c .before .before .loop .inv .same) refl
-    (c .before .before .before .before .before .pre .1))
-    (λ c κs. tt)
+    (c .before .before .before .before .before .pre .1)) (λ c κs. tt)
     (λ c κs. pair (omega arith) (ready-leaves (c .before .before .before .before .before .before .loop .inv .room)
     (c .before .before .before .before .before .before .loop .inv .same) refl
-    (c .before .before .before .before .before .before .before .before .before .pre .1)))
-    (λ c. omega arith) (λ c. omega arith)
+    (c .before .before .before .before .before .before .before .before .before .pre .1))) (λ c. omega arith) (λ c. omega arith)
     -- loop-again
     (λ c. let tail = c .before .before in let if1 = tail .before .before in let is-suffix = if1 .before in let kind-here = is-suffix .before in
     let in-loop = kind-here .before .before .before in
@@ -170,13 +162,10 @@ abbrev pub call-cs : ℕ → Calls cycle.Lts-call.Claims
 call-cs t = calls-5 refuse free-of expect (below pass-rank t) close-item
 
 pub call-ok : {M : Type 1} (t : ℕ) → cycle.Lts-call.Closed (call-cs t .claims) (at call-rank t) (call-rank .post) M
-call-ok t =
-    cycle.Lts-call.spec (call-cs t .claims) (at call-rank t) (call-rank .post) (λ c κs. omega arith) (λ c. omega arith)
+call-ok t = cycle.Lts-call.spec (call-cs t .claims) (at call-rank t) (call-rank .post) (λ c κs. omega arith) (λ c. omega arith)
     (λ c. arguments-shut _ (c .before .before .if1 .taken) (c .refuse .ensures .1)) (λ c κs. tt) (λ c κs. omega arith) (λ c. omega arith)
-    (λ c κs. pair (omega arith) (past-symbol refl (c .before .expect .ensures)))
-    (λ c κs. let pass = c .before .before .before .pass in
-    ready-leaves (pass .ensures .1 .0) (pass .kept .0) refl (ready-part (pass .ensures .0 .1) refl))
-    (λ c. omega arith)
+    (λ c κs. pair (omega arith) (past-symbol refl (c .before .expect .ensures))) (λ c κs. let pass = c .before .before .before .pass in
+    ready-leaves (pass .ensures .1 .0) (pass .kept .0) refl (ready-part (pass .ensures .0 .1) refl)) (λ c. omega arith)
     -- returns-2
     (λ c. let close-item = c .before .before in let pass = close-item .before .before .before .before in let expect = pass .before .before in
     let free-of = expect .before .before in let if1 = free-of .before .before in
@@ -187,15 +176,12 @@ abbrev pub pass-cs : ℕ → Calls cycle.Lts-pass.Claims
 pass-cs t = calls-4 kind-here expect (below arg-rank t) (below also-rank t)
 
 pub pass-ok : {M : Type 1} (t : ℕ) → cycle.Lts-pass.Closed (pass-cs t .claims) (at pass-rank t) (pass-rank .post) M
-pass-ok t =
-    cycle.Lts-pass.spec (pass-cs t .claims) (at pass-rank t) (pass-rank .post) (λ c κs. omega arith) (λ c κs. omega arith) (λ c. omega arith)
+pass-ok t = cycle.Lts-pass.spec (pass-cs t .claims) (at pass-rank t) (pass-rank .post) (λ c κs. omega arith) (λ c κs. omega arith) (λ c. omega arith)
     (λ c. (
       leaves-less (c .expect .ensures .1 .0) refl,
       λ src l. no-arguments src _ (c .before .before .before .kind-here .ensures .1 src l)
           (c .before .before .if1 .taken) (c .expect .ensures .1 .1 src l),
-    ))
-    (λ c κs. omega arith)
-    (λ c κs. let arg = c .before .before .before .arg in
+    )) (λ c κs. omega arith) (λ c κs. let arg = c .before .before .before .arg in
     pair (omega arith) (ready-takes (arg .ensures .1 .0) (arg .kept .0) (ready-part (arg .ensures .0 .1) refl)))
     (λ c κs. let e = c .before .before .before .also in pair (past-part refl (e .ensures) (e .kept .0)) (omega arith)) (λ c. omega arith)
     -- returns-2
@@ -210,8 +196,7 @@ abbrev pub arg-cs : ℕ → Calls cycle.Lts-arg.Claims
 arg-cs t = calls-4 free-of begin-item (below expr-rank t) set-size
 
 pub arg-ok : {M : Type 1} (t : ℕ) → cycle.Lts-arg.Closed (arg-cs t .claims) (at arg-rank t) (arg-rank .post) M
-arg-ok t =
-    cycle.Lts-arg.spec (arg-cs t .claims) (at arg-rank t) (arg-rank .post) (λ c κs. tt) (λ c κs. omega arith)
+arg-ok t = cycle.Lts-arg.spec (arg-cs t .claims) (at arg-rank t) (arg-rank .post) (λ c κs. tt) (λ c κs. omega arith)
     (λ c κs. let begin-item = c .before .before .before .begin-item in
     pair (omega arith) (pair (ready-takes (begin-item .ensures .1 .0) (begin-item .kept .0) (begin-item .ensures .0)) (omega arith)))
     -- set-size-requires
@@ -238,15 +223,12 @@ abbrev also-turns : cycle.Lts-also.MeasureT-loop
 also-turns s₀ n levels turns₀ count₀ a₀ s turns count a = turns
 
 pub also-ok : {M : Type 1} (t : ℕ) → cycle.Lts-also.Closed (also-cs t .claims) (at also-rank t) (also-rank .post) M
-also-ok t =
-    cycle.Lts-also.spec (also-cs t .claims) (at also-rank t) (also-rank .post) also-inv also-turns
+also-ok t = cycle.Lts-also.spec (also-cs t .claims) (at also-rank t) (also-rank .post) also-inv also-turns
     (λ c. (so-begins (c .before .pre .1) expression-first, refl))
     (λ c κs. ready-leaves (c .before .before .loop .inv .0 .room) (c .before .before .loop .inv .0 .same) refl
-    (c .before .before .before .before .pre .1))
-    (λ c. omega arith)
+    (c .before .before .before .before .pre .1)) (λ c. omega arith)
     (λ c. many-ends _ _ _ _ expression-last no-expression-counted refl (c .before .before .before .before .loop .inv .0)
-    (c .before .kind-here .ensures .1) (ne-eqb _ _ (c .if1 .taken)))
-    (λ c κs. pair (c .before .before .kind-here .ensures .0) (omega arith))
+    (c .before .kind-here .ensures .1) (ne-eqb _ _ (c .if1 .taken))) (λ c κs. pair (c .before .before .kind-here .ensures .0) (omega arith))
     (λ c κs. pair (omega arith) (past-symbol refl (c .before .expect .ensures))) (λ c. omega arith) (λ c. omega arith) (λ c. omega arith)
     -- loop-again
     (λ c. let arg = c .before .before in let expect = arg .before .before in let if1 = expect .before .before in let kind-here = if1 .before in
@@ -278,20 +260,17 @@ rest-ok t =
     (C.further (readers (within (start .args .levels))) (in-loop .loop .left - 1)) value-next
     (further-reads _ (expect .expect .ensures .1) (arg .arg .ensures .1)) (arg .arg .kept .0)
     (λ src l at free e. value-turn (start .args .levels) src (in-loop .loop .left) at (omega arith)))
-    (λ c. omega arith)
-    (λ c. so-ends (c .before .loop .inv) T.noExpressions before-last (wordless no-expression-words)
+    (λ c. omega arith) (λ c. so-ends (c .before .loop .inv) T.noExpressions before-last (wordless no-expression-words)
     (λ src l at free e. value-last (c .before .before .before .args .levels) src _ at (omega arith)))
 
 abbrev pub index-cs : ℕ → Calls cycle.Lts-index.Claims
 index-cs t = calls-4 free-of expect (below key-rank t) close-item
 
 pub index-ok : {M : Type 1} (t : ℕ) → cycle.Lts-index.Closed (index-cs t .claims) (at index-rank t) (index-rank .post) M
-index-ok t =
-    cycle.Lts-index.spec (index-cs t .claims) (at index-rank t) (index-rank .post) (λ c κs. tt) (λ c κs. omega arith)
+index-ok t = cycle.Lts-index.spec (index-cs t .claims) (at index-rank t) (index-rank .post) (λ c κs. tt) (λ c κs. omega arith)
     (λ c κs. pair (omega arith) (past-symbol refl (c .before .expect .ensures)))
     (λ c κs. ready-leaves (c .before .before .before .key .ensures .1 .0) (c .before .before .before .key .kept .0) refl
-    (past-symbol refl (c .before .before .before .before .before .expect .ensures)))
-    (λ c. omega arith)
+    (past-symbol refl (c .before .before .before .before .before .expect .ensures))) (λ c. omega arith)
     -- returns
     (λ c. let close-item = c .before .before in let key = close-item .before .before .before .before in let expect = key .before .before in
     let free-of = expect .before .before in leaves
@@ -302,8 +281,7 @@ abbrev pub key-cs : ℕ → Calls cycle.Lts-key.Claims
 key-cs t = calls-4 kind-here is-monadic (below monad-rank t) (below unit-rank t)
 
 pub key-ok : {M : Type 1} (t : ℕ) → cycle.Lts-key.Closed (key-cs t .claims) (at key-rank t) (key-rank .post) M
-key-ok t =
-    cycle.Lts-key.spec (key-cs t .claims) (at key-rank t) (key-rank .post) (λ c κs. omega arith) (λ c κs. tt)
+key-ok t = cycle.Lts-key.spec (key-cs t .claims) (at key-rank t) (key-rank .post) (λ c κs. omega arith) (λ c κs. tt)
     -- monad-requires
     (λ c κs. let if1 = c .before in let is-monadic = if1 .before in let start = is-monadic .before .before .before .before in
     pair (omega arith) (pair (start .pre .1) (monadic-positive _ (is-monadic .is-monadic .ensures .1) (if1 .if1 .taken))))
