@@ -2,7 +2,6 @@
 use Rattle.laws.proofs.Basics.{ℕ, suc, _+_, _<_, _≤_, _≡_, refl, List, [], _∷_, _++_, Bool, true, false, _&&_, cond, eqb, leb, arith, leb-true}
 use Rattle.laws.proofs.Basics.{le-leb}
 use Rattle.laws.proofs.Cases.{by-cases, by-cond, contradiction}
-use Rattle.items.specs.Item as I
 use Rattle.items.specs.Item.{Operand, number, address, Item, label, instruction, constant, string, global}
 use Rattle.items.proofs.Sound.{Sound, SoundOperand, SoundString}
 use Rattle.items.proofs.Rendered.{AllSound}

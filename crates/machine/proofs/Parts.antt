@@ -1,7 +1,7 @@
 -- A run in parts (document 02, Req 08): with budget n, then carried on with m from what is left, it is the run with n + m; so in any number of
 -- parts. What `carry_on` cites.
-use Rattle.laws.proofs.Basics.{ℕ, zero, suc, _+_, _-_, _<_, _≤_, _≡_, refl, sym, ap, _∙_, List, [], _∷_, Bool, true, false, _&&_, cond, length, eqb}
-use Rattle.laws.proofs.Basics.{leb, arith, eq-eqb, ne-eqb, leb-true, le-leb, lt-leb}
+use Rattle.laws.proofs.Basics.{ℕ, zero, suc, _+_, _-_, _<_, _≤_, _≡_, refl, sym, ap, _∙_, List, [], _∷_, _&&_, cond, length, eqb, leb, arith}
+use Rattle.laws.proofs.Basics.{eq-eqb, ne-eqb, leb-true, le-leb, lt-leb}
 use Rattle.laws.proofs.Cases.{by-cases}
 use mir.Syntax.{w64}
 use mir.Val.{Fits}

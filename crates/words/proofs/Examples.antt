@@ -1,5 +1,5 @@
 -- Worked examples by computation: the corners that document 01 names.
-use Rattle.laws.proofs.Basics.{ℕ, _≡_, refl, lit<, arith}
+use Rattle.laws.proofs.Basics.{_≡_, refl, lit<, arith}
 use Rattle.laws.proofs.Cases.{contradiction}
 use Rattle.words.specs.Words.{value, wordOf, add, sub, neg, complement, mul, quot, rem, below, eq, ne, lt, ge, gt, le, conj, disj, shl, shr}
 use Rattle.words.proofs.Division.{Divides, divides}
