@@ -315,12 +315,12 @@ fn index(s: &mut [u32], n: usize, levels: usize, r: State) -> State
 {
     let lo = free_of(s, r);
     let pling = expect(s, n, r, PLING);
-    let a = key(s, n, levels, pling);
+    let a = unary(s, n, levels, pling);
     close_item(s, n, a, lo, PLING)
 }
 
 // A monadic operator may begin any operand.
-fn key(s: &mut [u32], n: usize, levels: usize, r: State) -> State
+fn unary(s: &mut [u32], n: usize, levels: usize, r: State) -> State
     requires { ⌜ Ready 0 (now s) n r ⌝ }
     ensures { λ a. ⌜ Reading 1 (E.subscript (within levels)) (Encodes encode) (now (s .entry)) (now (s .exit)) n r a ⌝ }
 {

@@ -1,5 +1,5 @@
 -- Expressions by their operators.
-use Rattle.tree.proofs.phrases.+also+arg+bare+block+body+call+cases+cmd+expr+form+forms+give+index+init+item+key+lets+list+local+monad+nest+op+pass+pick+plain+redo+rest+run+set+step+tail+tails+term+test+till+unit+valof+when+whole as cycle
+use Rattle.tree.proofs.phrases.+also+arg+bare+block+body+call+cases+cmd+expr+form+forms+give+index+init+item+lets+list+local+monad+nest+op+pass+pick+plain+redo+rest+run+set+step+tail+tails+term+test+till+unary+unit+valof+when+whole as cycle
 use Rattle.language.specs.Tree as T
 use Rattle.language.specs.Expressions as E
 use Rattle.laws.proofs.Basics.{ℕ, refl, sym, _∙_, eqb, arith, eq-eqb, ne-eqb}

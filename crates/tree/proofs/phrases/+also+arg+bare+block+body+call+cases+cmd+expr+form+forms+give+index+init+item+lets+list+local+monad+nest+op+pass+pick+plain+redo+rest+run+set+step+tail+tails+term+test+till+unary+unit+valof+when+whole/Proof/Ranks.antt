@@ -258,8 +258,8 @@ init-rank = member of.init.Kinds.ps of.init.Kinds.r (λ κs a. a .1 .1 .0 * 64 +
 abbrev pub item-rank : Member
 item-rank = member of.item.Kinds.ps of.item.Kinds.r (λ κs a. a .1 .1 .0 * 64 + 56) of.item.Reads.Pre of.item.Reads.Post "tree::phrases::item"
 
-abbrev pub key-rank : Member
-key-rank = member of.key.Kinds.ps of.key.Kinds.r (λ κs a. a .1 .1 .0 * 64 + 11) of.key.Reads.Pre of.key.Reads.Post "tree::phrases::key"
+abbrev pub unary-rank : Member
+unary-rank = member of.unary.Kinds.ps of.unary.Kinds.r (λ κs a. a .1 .1 .0 * 64 + 11) of.unary.Reads.Pre of.unary.Reads.Post "tree::phrases::unary"
 
 abbrev pub lets-rank : Member
 lets-rank = member of.lets.Kinds.ps of.lets.Kinds.r (λ κs a. a .1 .1 .0 * 64 + 54) of.lets.Reads.Pre of.lets.Reads.Post "tree::phrases::lets"

@@ -1,5 +1,5 @@
 -- Operands: primaries with their suffixes, arguments and lists of expressions.
-use Rattle.tree.proofs.phrases.+also+arg+bare+block+body+call+cases+cmd+expr+form+forms+give+index+init+item+key+lets+list+local+monad+nest+op+pass+pick+plain+redo+rest+run+set+step+tail+tails+term+test+till+unit+valof+when+whole as cycle
+use Rattle.tree.proofs.phrases.+also+arg+bare+block+body+call+cases+cmd+expr+form+forms+give+index+init+item+lets+list+local+monad+nest+op+pass+pick+plain+redo+rest+run+set+step+tail+tails+term+test+till+unary+unit+valof+when+whole as cycle
 use Rattle.language.specs.Tree as T
 use Rattle.language.specs.Expressions as E
 use Rattle.language.specs.Commands as C
@@ -27,7 +27,7 @@ use Rattle.tree.specs.Encoding.{encodeExpressions}
 use Rattle.tree.specs.Reads.{Encodes}
 use Rattle.tree.proofs.Wholes.{leaves, takes, of-kind, _from_, _writing_, _with_, _adding_, _setting_}
 use cycle.Proof.Ranks.{Calls, also-rank, arg-rank, at, atom, begin-item, below, call-rank, calls-10, calls-2, calls-3, calls-4, calls-5, calls-6}
-use cycle.Proof.Ranks.{close-item, cmd-rank, expect, expr-rank, free-of, index-rank, is-monadic, is-suffix, key-rank, kind-here, minus, monad-rank}
+use cycle.Proof.Ranks.{close-item, cmd-rank, expect, expr-rank, free-of, index-rank, is-monadic, is-suffix, unary-rank, kind-here, minus, monad-rank}
 use cycle.Proof.Ranks.{nest-rank, node, pass-rank, place-here, place-of, refuse, rest-rank, set-size, suffixed-kind, tail-rank, tails-rank, unit-rank}
 use cycle.Proof.Ranks.{valof-rank, whole-rank}
 
@@ -264,24 +264,24 @@ rest-ok t =
     (λ src l at free e. value-last (c .before .before .before .args .levels) src _ at (omega arith)))
 
 abbrev pub index-cs : ℕ → Calls cycle.Lts-index.Claims
-index-cs t = calls-4 free-of expect (below key-rank t) close-item
+index-cs t = calls-4 free-of expect (below unary-rank t) close-item
 
 pub index-ok : {M : Type 1} (t : ℕ) → cycle.Lts-index.Closed (index-cs t .claims) (at index-rank t) (index-rank .post) M
 index-ok t = cycle.Lts-index.spec (index-cs t .claims) (at index-rank t) (index-rank .post) (λ c κs. tt) (λ c κs. omega arith)
     (λ c κs. pair (omega arith) (past-symbol refl (c .before .expect .ensures)))
-    (λ c κs. ready-leaves (c .before .before .before .key .ensures .1 .0) (c .before .before .before .key .kept .0) refl
+    (λ c κs. ready-leaves (c .before .before .before .unary .ensures .1 .0) (c .before .before .before .unary .kept .0) refl
     (past-symbol refl (c .before .before .before .before .before .expect .ensures))) (λ c. omega arith)
     -- returns
-    (λ c. let close-item = c .before .before in let key = close-item .before .before .before .before in let expect = key .before .before in
+    (λ c. let close-item = c .before .before in let unary = close-item .before .before .before .before in let expect = unary .before .before in
     let free-of = expect .before .before in leaves
-    ((λ src l. index-read src _ _ (free-of .free-of .ensures .1)) from expect .expect .ensures .1 with key .key .ensures .1 adding
+    ((λ src l. index-read src _ _ (free-of .free-of .ensures .1)) from expect .expect .ensures .1 with unary .unary .ensures .1 adding
     close-item .close-item .ensures .1) refl)
 
-abbrev pub key-cs : ℕ → Calls cycle.Lts-key.Claims
-key-cs t = calls-4 kind-here is-monadic (below monad-rank t) (below unit-rank t)
+abbrev pub unary-cs : ℕ → Calls cycle.Lts-unary.Claims
+unary-cs t = calls-4 kind-here is-monadic (below monad-rank t) (below unit-rank t)
 
-pub key-ok : {M : Type 1} (t : ℕ) → cycle.Lts-key.Closed (key-cs t .claims) (at key-rank t) (key-rank .post) M
-key-ok t = cycle.Lts-key.spec (key-cs t .claims) (at key-rank t) (key-rank .post) (λ c κs. omega arith) (λ c κs. tt)
+pub unary-ok : {M : Type 1} (t : ℕ) → cycle.Lts-unary.Closed (unary-cs t .claims) (at unary-rank t) (unary-rank .post) M
+unary-ok t = cycle.Lts-unary.spec (unary-cs t .claims) (at unary-rank t) (unary-rank .post) (λ c κs. omega arith) (λ c κs. tt)
     -- monad-requires
     (λ c κs. let if1 = c .before in let is-monadic = if1 .before in let start = is-monadic .before .before .before .before in
     pair (omega arith) (pair (start .pre .1) (monadic-positive _ (is-monadic .is-monadic .ensures .1) (if1 .if1 .taken))))
