@@ -16,11 +16,11 @@ pub use native.Mathlib.Numerals.{add-one}
 pub use native.Mathlib.Omega.{arith}
 pub use borrow.Author.Tests.{eqb-true, eqb-false, eq-eqb, ne_eqb, ltb-true, ltb-false, lt-ltb, le-ltb, leb-true, leb-false, le-leb, lt-leb}
 pub use borrow.Author.Tests.{not-true, not-false}
-use borrow.Author.Rules.{zero≤, scaled_Fits}
+use borrow.Author.Rules.{scaled_Fits}
 
 -- What `search` is handed for a need that is trivial or is linear arithmetic: of the toolchain's set of this name what needs here ask for,
 -- and nothing of floats, signed numbers and what arrays hold. Each rule is tried at each need, so a shorter set is faster.
-pub ruleset needs = (tt, lit<, lit≤, zero≤, le_refl, length-set, scaled_Fits, leb-false, ltb-false, arith)
+pub ruleset needs = (tt, lit<, lit≤, zero-le, le_refl, length-set, scaled_Fits, leb-false, ltb-false, arith)
 
 -- one more on the other side
 pub add-shift : (n m : ℕ) → n + suc m ≡ suc n + m

@@ -194,9 +194,9 @@ module _ {M : Type 1} {𝓤 : Ura M} (𝓛 : Logic 𝓤) (at_mem : Memory → SP
   )) (λ κs qs bounds a g are. walk κs.0 κs.1.0 κs.1.1.0 qs.0 qs.1.0 qs.1.1.0 a.0 a.1.0 a.1.1.0 are.0.0.1
       are.1.0.0.1 are.1.1.0.0.1)
 
-pub assemble-spec : {M : Type 1} → stated.statement M
+pub assemble_spec : {M : Type 1} → stated.statement M
 unfolding code.routine tables_of
-assemble-spec 𝓤 𝓛 𝓜 𝓡 = entered 𝓤 𝓛.H _ (tables 𝓤 𝓛.H 𝓜 𝓡 code.env).C (tables 𝓤 𝓛.H 𝓜 𝓡 code.env).Λ #assemble code.function (code.unfolded 𝓤 𝓛.H 𝓜 𝓡)
+assemble_spec 𝓤 𝓛 𝓜 𝓡 = entered 𝓤 𝓛.H _ (tables 𝓤 𝓛.H 𝓜 𝓡 code.env).C (tables 𝓤 𝓛.H 𝓜 𝓡 code.env).Λ #assemble code.function (code.unfolded 𝓤 𝓛.H 𝓜 𝓡)
     (assemble-meets 𝓛 𝓜.mem 𝓡.run (tables_of 𝓤 𝓛.H 𝓜 (tables 𝓤 𝓛.H 𝓜 𝓡 code.env))
     (cited 𝓤 𝓛.H _ 𝓜 𝓡 code.env #no-keys no-keys-routine code.calls-assembler::no-keys (no-keys-thm.met 𝓤 𝓛 𝓜 𝓡))
     (cited 𝓤 𝓛.H _ 𝓜 𝓡 code.env #passes passes-routine code.calls-assembler::assemble-for (passes-thm.met 𝓤 𝓛 𝓜 𝓡))

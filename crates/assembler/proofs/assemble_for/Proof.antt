@@ -8,7 +8,7 @@ returns c = serves-within _ _ c.before.before.before.before.before.before.before
     c.before.before.before.before.before.before.before.if1.true _ refl c.before.before.before.before.assemble-keys.auto.1.1.0
     c.before.before.before.before.assemble-keys.ensures
 
-pub assemble-for-spec : {M : Type 1} → Rattle.assembler.proofs.assemble_for.Statement.statement M
-assemble-for-spec = tie.close
+pub assemble_for_spec : {M : Type 1} → Rattle.assembler.proofs.assemble_for.Statement.statement M
+assemble_for_spec = tie.close
     (tie.spec (search needs) (search needs) (search needs) (search needs) (search needs) (search needs) returns (search needs) (search needs)
     (search needs) (λ c. search serves-all))

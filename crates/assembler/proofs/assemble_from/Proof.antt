@@ -29,8 +29,8 @@ returns-3 c = let w = c.before.before.before.before.before.before.before.before.
     w.before.before.before.before.before.before.before.lay-out.ensures w.before.before.before.layout2.given.1
     (omega arith) w.write-start.ensures c.before.before.before.before.write-items.ensures c.enum_told.given.1
 
-pub assemble-from-spec : {M : Type 1} → Rattle.assembler.proofs.assemble_from.Statement.statement M
-assemble-from-spec = tie.close
+pub assemble_from_spec : {M : Type 1} → Rattle.assembler.proofs.assemble_from.Statement.statement M
+assemble_from_spec = tie.close
     (tie.spec (λ c κs. search needs) (λ c κs. search needs) (λ c. search needs) (λ c κs. search needs) (λ c. search needs) (λ c κs. search needs)
     write-items-requires (λ c. search needs) (λ c κs. search needs) (λ c. search needs) cast-t33 (λ c. search needs) (λ c. search needs)
     (λ c. search gives-fault) (λ c. search needs) (λ c. search needs) returns-2 (λ c. search needs) (λ c. search needs) returns-3)

@@ -10,8 +10,8 @@ assemble-from-requires c κs =
     is-ready args.text.now args.memory.now args.labels.now blank.clear-words.ensures cleared.clear-labels.ensures
     tested.before.if1.false tested.if2.false
 
-pub assemble-keys-spec : {M : Type 1} → Rattle.assembler.proofs.assemble_keys.Statement.statement M
-assemble-keys-spec = tie.close
+pub assemble_keys_spec : {M : Type 1} → Rattle.assembler.proofs.assemble_keys.Statement.statement M
+assemble_keys_spec = tie.close
     (tie.spec (search needs) (search needs) (search needs) (search needs) (search needs) (λ c. search assembles-short) (search needs) (search needs)
     (search needs) (λ c. search assembles-long) (search needs) (search needs) (search needs) (search needs) assemble-from-requires (search needs)
     (search needs) (λ c. search (assembles-not, begins-not)) (search needs) (search needs) (λ c. search (needs, assembles-from, begins)))

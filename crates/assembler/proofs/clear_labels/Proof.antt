@@ -8,6 +8,6 @@ invariant-loop labels₀ i₀ labels i = Clearing labels₀ 0 labels i
 abbrev decreases-loop : tie.decreases-loop
 decreases-loop labels₀ i₀ labels i = length labels₀ - i
 
-pub clear-labels-spec : {M : Type 1} → Rattle.assembler.proofs.clear_labels.Statement.statement M
-clear-labels-spec = tie.close (tie.spec invariant-loop decreases-loop (λ c. search clearing-starts) (search needs) (search needs) (search needs) (search needs)
+pub clear_labels_spec : {M : Type 1} → Rattle.assembler.proofs.clear_labels.Statement.statement M
+clear_labels_spec = tie.close (tie.spec invariant-loop decreases-loop (λ c. search clearing-starts) (search needs) (search needs) (search needs) (search needs)
     (λ c. search (needs, clearing-goes-on)) (search needs) (λ c. search (needs, all-cleared)))

@@ -8,6 +8,6 @@ invariant-loop memory₀ i₀ memory i = Clearing memory₀ 0 memory i
 abbrev decreases-loop : tie.decreases-loop
 decreases-loop memory₀ i₀ memory i = length memory₀ - i
 
-pub clear-words-spec : {M : Type 1} → Rattle.assembler.proofs.clear_words.Statement.statement M
-clear-words-spec = tie.close (tie.spec invariant-loop decreases-loop (λ c. search clearing-starts) (search needs) (search needs) (search needs) (search needs)
+pub clear_words_spec : {M : Type 1} → Rattle.assembler.proofs.clear_words.Statement.statement M
+clear_words_spec = tie.close (tie.spec invariant-loop decreases-loop (λ c. search clearing-starts) (search needs) (search needs) (search needs) (search needs)
     (λ c. search (needs, clearing-goes-on)) (search needs) (λ c. search (needs, all-cleared)))

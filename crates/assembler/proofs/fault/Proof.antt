@@ -11,9 +11,9 @@ unfolding in_range item_of
 label-fault-requires c κs = let ranged : in_range (item_of blank c.before.before.before.before.before.args.item) ≡ true = search held in
     (search needs, rw c.before.item.given.1 at ranged)
 
-pub fault-spec : {M : Type 1} → Rattle.assembler.proofs.fault.Statement.statement M
+pub fault_spec : {M : Type 1} → Rattle.assembler.proofs.fault.Statement.statement M
 unfolding misplaced item_of
-fault-spec = tie.close
+fault_spec = tie.close
     (tie.spec (search needs) (λ c. fault-out _ _ _ _ _ (search failed)) (search needs) label-fault-requires (search needs) (λ c κs. search held)
     (search needs) (search needs) (λ c κs. search held) (search needs) (search needs) (λ c κs. search held) (search needs) (search needs)
     (λ c. fault-in _ _ _ _ _ (search held) (rw c.before.before.item.given.1 c.label-fault.ensures))

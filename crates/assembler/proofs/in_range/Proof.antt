@@ -23,8 +23,8 @@ returns-6 : tie.Need-returns-6
 unfolding in_range item_of
 returns-6 c = rw (c.before.before.item4.given.1, lt-leb _ _ c.if1.false)
 
-pub in-range-spec : {M : Type 1} → Rattle.assembler.proofs.in_range.Statement.statement M
+pub in_range_spec : {M : Type 1} → Rattle.assembler.proofs.in_range.Statement.statement M
 unfolding in_range item_of
-in-range-spec = tie.close
+in_range_spec = tie.close
     (tie.spec (search needs) (search needs) (search needs) (search needs) (search needs) (search needs) (search needs) (search needs) (search needs)
     returns returns-2 returns-3 (λ c. rw c.enum_told.given.1) returns-5 returns-6)

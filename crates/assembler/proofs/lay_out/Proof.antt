@@ -45,8 +45,8 @@ loop-again c = let noted = c.before.before.before in let x = noted.before.before
     let called = read.before.before in let one = reads-one _ _ called.next-in.ensures read.next2.given.1 in
     laying-on _ _ _ _ _ _ _ _ _ called.before.loop.invariant one x.before.fault.ensures x.if1.false noted.note.ensures c.size.ensures
 
-pub lay-out-spec : {M : Type 1} → Rattle.assembler.proofs.lay_out.Statement.statement M
-lay-out-spec = tie.close
+pub lay_out_spec : {M : Type 1} → Rattle.assembler.proofs.lay_out.Statement.statement M
+lay_out_spec = tie.close
     (tie.spec invariant-loop decreases-loop (λ c. search laying-start) (search needs) (search needs) (search needs) (λ c. search (laying-whole, reads_whole))
     (search needs) (search needs) (λ c. search (laying-not, reads-not)) (search needs)
     (λ c κs. (laying-count _ _ _ _ _ _ _ _ _ c.before.before.before.before.before.loop.invariant, search needs)) (search needs) returns-3

@@ -181,9 +181,9 @@ module _ {M : Type 1} {𝓤 : Ura M} (𝓛 : Logic 𝓤) (at_mem : Memory → SP
       (λ κs. (shr_slice_vals, (uint_vals w16, tt))) (λ κs. (shr_slice_Tells (named 0) κs.0 T.the_row, (uint_Tells w16, tt)))
       (λ κs qs bounds a g are. walk κs.0 qs.0 a.0.ref_ptr.0 a.0.ref_ptr.1 0 a.0.now a.1.0 are.0.0.1 are.1.0.1)
 
-pub look-up-spec : {M : Type 1} → stated.statement M
+pub look_up_spec : {M : Type 1} → stated.statement M
 unfolding code.routine tables_of
-look-up-spec 𝓤 𝓛 𝓜 𝓡 = entered 𝓤 𝓛.H _ (tables 𝓤 𝓛.H 𝓜 𝓡 code.env).C (tables 𝓤 𝓛.H 𝓜 𝓡 code.env).Λ #look-up code.function (code.unfolded 𝓤 𝓛.H 𝓜 𝓡)
+look_up_spec 𝓤 𝓛 𝓜 𝓡 = entered 𝓤 𝓛.H _ (tables 𝓤 𝓛.H 𝓜 𝓡 code.env).C (tables 𝓤 𝓛.H 𝓜 𝓡 code.env).Λ #look-up code.function (code.unfolded 𝓤 𝓛.H 𝓜 𝓡)
     (look-up-meets 𝓛 𝓜.mem 𝓡.run (tables_of 𝓤 𝓛.H 𝓜 (tables 𝓤 𝓛.H 𝓜 𝓡 code.env))
     (cited 𝓤 𝓛.H _ 𝓜 𝓡 code.env #told told-routine code.calls-assembler::told (told-thm.met 𝓤 𝓛 𝓜 𝓡))
     (cited 𝓤 𝓛.H _ 𝓜 𝓡 code.env #missing missing-routine code.calls-assembler::missing (missing-thm.met 𝓤 𝓛 𝓜 𝓡)))

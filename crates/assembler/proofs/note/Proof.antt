@@ -4,9 +4,9 @@ use Rattle.assembler.proofs.Noting.{note-label, note-other}
 use Rattle.laws.proofs.Basics.{arith, needs}
 use Rattle.assembler.proofs.note.Tie as tie
 
-pub note-spec : {M : Type 1} → Rattle.assembler.proofs.note.Statement.statement M
+pub note_spec : {M : Type 1} → Rattle.assembler.proofs.note.Statement.statement M
 unfolding item_of noted
-note-spec = tie.close
+note_spec = tie.close
     (tie.spec (search needs) (search needs) (search needs) (search needs) (λ c. (c.before.before.before.requires.free _ c.before.item.given.1).0)
     (λ c. omega (arith, (c.before.before.before.requires.free _ c.before.item.given.1).0)) (search needs)
     (λ c. omega (arith, (c.before.before.before.requires.free _ c.before.item.given.1).0)) (search needs)

@@ -7,7 +7,7 @@ returns-3 : tie.Need-returns-3
 unfolding operand_in_range operand_of
 returns-3 c = rw c.before.before.x2.given.1 c.label-in-range.ensures
 
-pub operand-in-range-spec : {M : Type 1} → Rattle.assembler.proofs.operand_in_range.Statement.statement M
+pub operand_in_range_spec : {M : Type 1} → Rattle.assembler.proofs.operand_in_range.Statement.statement M
 unfolding operand_in_range operand_of
-operand-in-range-spec = tie.close (tie.spec (search needs) (search needs) (search needs) (λ c. rw (c.before.before.x.given.1, c.if1.true))
+operand_in_range_spec = tie.close (tie.spec (search needs) (search needs) (search needs) (λ c. rw (c.before.before.x.given.1, c.if1.true))
     (λ c. rw (c.before.before.x.given.1, c.if1.false)) returns-3)

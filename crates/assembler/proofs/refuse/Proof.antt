@@ -13,5 +13,5 @@ returns c = record {
       c.before.before.before.clear-labels.ensures;
 }
 
-pub refuse-spec : {M : Type 1} → Rattle.assembler.proofs.refuse.Statement.statement M
-refuse-spec = tie.close (tie.spec (search needs) (search needs) (search needs) (search needs) (search needs) returns)
+pub refuse_spec : {M : Type 1} → Rattle.assembler.proofs.refuse.Statement.statement M
+refuse_spec = tie.close (tie.spec (search needs) (search needs) (search needs) (search needs) (search needs) returns)

@@ -8,7 +8,7 @@ signed-requires : tie.Need-signed-requires
 unfolding operand_of
 signed-requires c κs = number-below _ (rw c.before.x.given.1 at c.before.before.before.requires)
 
-pub short-spec : {M : Type 1} → Rattle.assembler.proofs.short.Statement.statement M
+pub short_spec : {M : Type 1} → Rattle.assembler.proofs.short.Statement.statement M
 unfolding short operand_of
-short-spec = tie.close (tie.spec (search needs) signed-requires (search needs) (λ c. rw (c.before.before.x.given.1, c.signed.ensures))
+short_spec = tie.close (tie.spec (search needs) signed-requires (search needs) (λ c. rw (c.before.before.x.given.1, c.signed.ensures))
     (λ c. rw c.enum_told.given.1))

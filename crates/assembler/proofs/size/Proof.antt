@@ -19,7 +19,7 @@ returns-5 : tie.Need-returns-5
 unfolding item_of size
 returns-5 c = rw (c.before.item2.given.1, length-replicate, add-one)
 
-pub size-spec : {M : Type 1} → Rattle.assembler.proofs.size.Statement.statement M
+pub size_spec : {M : Type 1} → Rattle.assembler.proofs.size.Statement.statement M
 unfolding item_of size
-size-spec = tie.close (tie.spec (search needs) (search needs) short-requires (search needs) (search needs) (search needs) (search needs)
+size_spec = tie.close (tie.spec (search needs) (search needs) short-requires (search needs) (search needs) (search needs) (search needs)
     (λ c. rw c.enum_told.given.1) returns-2 returns-3 (λ c. rw c.enum-told2.given.1) returns-5 (λ c. rw c.enum-told3.given.1))

@@ -24,9 +24,9 @@ returns-3 c = instruction-long _ _ _ _ _ _ _ c.before.before.before.before.befor
     c.before.before.before.before.before.value.ensures c.before.before.before.before.before.before.head.ensures.0
     c.before.before.before.found.given.1 (sym c.before.short.ensures ∙ c.if1.false)
 
-pub write-instruction-spec : {M : Type 1} → Rattle.assembler.proofs.write_instruction.Statement.statement M
+pub write_instruction_spec : {M : Type 1} → Rattle.assembler.proofs.write_instruction.Statement.statement M
 unfolding in_range
-write-instruction-spec = tie.close
+write_instruction_spec = tie.close
     (tie.spec (λ c κs. search needs) (λ c κs. search needs) (λ c. search needs) (λ c. search needs) (λ c κs. search needs) add-memory
     (λ c. search needs) (λ c. search first_fits) (λ c. search needs) (λ c. search needs) returns (λ c. search needs) (λ c. search needs)
     (λ c. search first_fits) (λ c. search needs) (λ c. search needs) slice-write-memory-3 (λ c. search needs) (λ c. search instruction-unknown)

@@ -47,9 +47,9 @@ returns-5 : tie.Need-returns-5
 unfolding item_of
 returns-5 c = rw c.before.before.before.before.before.item4.given.1 c.before.before.write-global.ensures
 
-pub write-item-spec : {M : Type 1} → Rattle.assembler.proofs.write_item.Statement.statement M
+pub write_item_spec : {M : Type 1} → Rattle.assembler.proofs.write_item.Statement.statement M
 unfolding item_of
-write-item-spec = tie.close
+write_item_spec = tie.close
     (tie.spec (search needs) (search needs) write-instruction-requires (search needs) write-constant-requires (search needs) add-write-string
     cast-write-string write-string-requires (search needs) (search needs) (search needs) write-global-requires
     (λ c. rw c.enum_told.given.1 (search label-writes)) (search needs) returns-2 (search needs) returns-3 (search needs) returns-4

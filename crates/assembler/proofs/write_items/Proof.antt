@@ -42,7 +42,7 @@ loop-less c = omega (
       c.before.before.before.before.before.before.before.before.next.given.1).within,
 )
 
-pub write-items-spec : {M : Type 1} → Rattle.assembler.proofs.write_items.Statement.statement M
-write-items-spec = tie.close
+pub write_items_spec : {M : Type 1} → Rattle.assembler.proofs.write_items.Statement.statement M
+write_items_spec = tie.close
     (tie.spec invariant-loop decreases-loop (λ c. search filling-start) (search needs) (search needs) (search needs) returns (search needs) (search needs) returns-2
     (search needs) write-item-requires (search needs) (search needs) returns-3 (search needs) loop-less (λ c. search (filling-on, reads-one)))

@@ -59,8 +59,8 @@ loop-less c = let second = c.before.before in let again = second.before.before i
     let two = when-is _ again.character-at2.ensures second.two.given.1 in
     omega (arith, past-character text head.loop.place one, past-character text (head.loop.place + matched.one.given.0.1.0) two)
 
-pub write-string-spec : {M : Type 1} → Rattle.assembler.proofs.write_string.Statement.statement M
-write-string-spec = tie.close
+pub write_string_spec : {M : Type 1} → Rattle.assembler.proofs.write_string.Statement.statement M
+write_string_spec = tie.close
     (tie.spec invariant-loop decreases-loop (λ c. record { spelling = c.before.before.requires; same = refl; so_far = refl }) (λ c κs. search needs)
     (λ c. search needs) (λ c. search needs) returns (λ c. search needs) (λ c. search needs) returns-2 (λ c. search needs) (λ c κs. search needs)
     (λ c. search needs) (λ c. omega arith) (λ c. search needs) (λ c. search (spells-end, when-closing)) (λ c. search needs) (λ c κs. search needs)

@@ -9,8 +9,8 @@ labels : (c : tie.After-string-count) → c.before.before.function-count.result 
 labels c =
     let f = c.before.before in few_labels f.before.before.before.before.before.requires f.function-count.ensures c.string-count.ensures
 
-pub walked-spec : {M : Type 1} → Rattle.compiler.proofs.walked.Statement.statement M
-walked-spec =
+pub walked_spec : {M : Type 1} → Rattle.compiler.proofs.walked.Statement.statement M
+walked_spec =
     tie.close (tie.spec (search needs) (λ c κs. omega (arith, few-symbols)) (λ c κs. omega (arith, few-symbols)) (search needs) (search needs)
     (λ c. omega (arith, labels (search))) (λ c. omega (arith, labels (search))) (search needs) (λ c. omega (arith, labels (search)))
     (λ c κs. search ready-program) (search needs)

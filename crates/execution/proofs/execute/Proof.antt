@@ -17,7 +17,7 @@ returns-2 c = source-ran
     c.before.before.before.before.before.before.before.before.before.before.before.before.before.before.before.compile.ensures
     c.before.before.before.before.before.before.before.before.before.n.given.1 c.before.before.before.before.run-text.ensures
 
-pub execute-spec : {M : Type 1} → Rattle.execution.proofs.execute.Statement.statement M
-execute-spec = tie.close
+pub execute_spec : {M : Type 1} → Rattle.execution.proofs.execute.Statement.statement M
+execute_spec = tie.close
     (tie.spec (search needs) (search needs) (search needs) slice-reshare-prefix-run-text slice-aggregate-run-text (search needs) (search needs)
     (search needs) returns (search needs) (search needs) (search needs) (search needs) returns-2)

@@ -6,6 +6,6 @@ returns-2 : tie.Need-returns-2
 returns-2 c = text-ran c.before.before.before.before.before.before.before.before.before.before.before.before.load.ensures
     c.before.before.before.before.before.before.before.before.first.given.1 c.before.before.before.before.run.ensures
 
-pub run-text-spec : {M : Type 1} → Rattle.execution.proofs.run_text.Statement.statement M
-run-text-spec = tie.close (tie.spec (search needs) (search needs) (search needs) (search needs) (search needs)
+pub run_text_spec : {M : Type 1} → Rattle.execution.proofs.run_text.Statement.statement M
+run_text_spec = tie.close (tie.spec (search needs) (search needs) (search needs) (search needs) (search needs)
     (λ c. text-refused c.before.before.before.before.before.load.ensures c.before.r.given.1) (search needs) (search needs) returns-2)

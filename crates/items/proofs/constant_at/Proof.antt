@@ -8,7 +8,7 @@ returns-2 : tie.Need-returns-2
 returns-2 c = let read = c.before.before.before in
     no_item _ (constant-open _ _ (operand-reads _ _ read.before.before.Operand-at.ensures read.x.given.1).reads (search ended-fails))
 
-pub constant-at-spec : {M : Type 1} → Rattle.items.proofs.constant_at.Statement.statement M
-constant-at-spec = tie.close
+pub constant_at_spec : {M : Type 1} → Rattle.items.proofs.constant_at.Statement.statement M
+constant_at_spec = tie.close
     (tie.spec (search needs) (search needs) (search needs) (λ c. search (a-constant, operand-reads, ended-reads)) (search needs) returns-2
     (λ c. search (no_item, constant-none, operand-fails)))

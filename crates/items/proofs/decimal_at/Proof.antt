@@ -9,8 +9,8 @@ invariant-loop text at first n₀ i₀ n i = SoFar text at n i
 abbrev decreases-loop : tie.decreases-loop
 decreases-loop text at first n₀ i₀ n i = length text - i
 
-pub decimal-at-spec : {M : Type 1} → Rattle.items.proofs.decimal_at.Statement.statement M
-decimal-at-spec = tie.close (tie.spec invariant-loop decreases-loop (search needs) (search needs) (λ c. search (no-decimal, failed)) (λ c. search digits-start)
+pub decimal_at_spec : {M : Type 1} → Rattle.items.proofs.decimal_at.Statement.statement M
+decimal_at_spec = tie.close (tie.spec invariant-loop decreases-loop (search needs) (search needs) (λ c. search (no-decimal, failed)) (λ c. search digits-start)
     (search needs) (search needs) (λ c. search (decimal-stops, held, failed))
     (λ c κs. digit-ready _ (omega arith) (held c.before.is-digit2.ensures c.if2.false))
     (λ c. omega arith) (λ c. omega arith) (λ c. search (digits_more, held)) (λ c. search (decimal-ends, held)))

@@ -2,8 +2,8 @@ use Rattle.laws.proofs.Basics.{needs}
 use Rattle.items.proofs.Places.{ending-bytes, is-ended, is-not-ended}
 use Rattle.items.proofs.ended.Tie as tie
 
-pub ended-spec : {M : Type 1} → Rattle.items.proofs.ended.Statement.statement M
-ended-spec = tie.close (tie.spec (search needs) (λ c. is-ended _ c.before.byte_at.ensures c.match.keys1 ending-bytes.0)
+pub ended_spec : {M : Type 1} → Rattle.items.proofs.ended.Statement.statement M
+ended_spec = tie.close (tie.spec (search needs) (λ c. is-ended _ c.before.byte_at.ensures c.match.keys1 ending-bytes.0)
     (λ c. is-ended _ c.before.byte_at.ensures c.match.keys2 ending-bytes.1)
     (λ c. is-ended _ c.before.byte_at.ensures c.match.keys3 ending-bytes.2)
     (λ c. is-ended _ c.before.byte_at.ensures c.match.keys4 ending-bytes.3) (λ c. search is-not-ended))

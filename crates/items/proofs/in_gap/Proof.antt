@@ -3,8 +3,8 @@ use Rattle.items.specs.Parts.{in_gap}
 use Rattle.items.proofs.Gaps.{in-gap-other}
 use Rattle.items.proofs.in_gap.Tie as tie
 
-pub in-gap-spec : {M : Type 1} → Rattle.items.proofs.in_gap.Statement.statement M
+pub in_gap_spec : {M : Type 1} → Rattle.items.proofs.in_gap.Statement.statement M
 unfolding in_gap
-in-gap-spec = tie.close
+in_gap_spec = tie.close
     (tie.spec (λ c. rw c.if1.true) (λ c. rw (c.before.if1.false, c.match.keys1)) (λ c. rw (c.before.if1.false, c.match.keys2))
     (λ c. rw (c.before.if1.false, c.match.keys3)) (λ c. rw c.before.if1.false (sym (search in-gap-other))))

@@ -17,6 +17,6 @@ returns-3 c = let operand = c.before.before in let base = operand.before in let 
     (instruction-none _ past.before.before.before.args.at _ (optional-reads _ _ 73 past.before.has.ensures past.past-byte.ensures)
     (base-reads _ _ base.base-at.ensures).reads (operand-fails _ _ operand.Operand-at.ensures c.enum_told.given.1))
 
-pub instruction-at-spec : {M : Type 1} → Rattle.items.proofs.instruction_at.Statement.statement M
-instruction-at-spec = tie.close (tie.spec (search needs) (search needs) (search needs) (search needs) (search needs) (search needs)
+pub instruction_at_spec : {M : Type 1} → Rattle.items.proofs.instruction_at.Statement.statement M
+instruction_at_spec = tie.close (tie.spec (search needs) (search needs) (search needs) (search needs) (search needs) (search needs)
     (λ c. search (an-instruction, optional-reads, base-reads, operand-reads, ended-reads)) (search needs) returns-2 returns-3)

@@ -8,8 +8,8 @@ add-instruction-at : tie.Need-overflow-add-instruction-at
 add-instruction-at c = let read = c.before.before.before.before.before in let args = read.before.before.args in
     omega (arith, function-inside args.text.now args.at read.byte_at.ensures c.before.Function-of.ensures c.if2.true)
 
-pub item-at-spec : {M : Type 1} → Rattle.items.proofs.item_at.Statement.statement M
-item-at-spec = tie.close (tie.spec (search needs) (search needs) (search needs) (λ c. c.label_at.ensures ∙ (search (item-label, holds)))
+pub item_at_spec : {M : Type 1} → Rattle.items.proofs.item_at.Statement.statement M
+item_at_spec = tie.close (tie.spec (search needs) (search needs) (search needs) (λ c. c.label_at.ensures ∙ (search (item-label, holds)))
     (λ c. let read = c.before.before.before in let args = read.before.before.args in
     omega (arith, inside args.text.now args.at (sym read.byte_at.ensures ∙ c.match.keys1) (omega arith))) (search needs)
     (λ c. let read = c.before.before.before in let args = read.before.before.args in

@@ -17,7 +17,7 @@ returns-2 c = let read = c.before.before.before in
     no_item _ (label-fails _ _ (decimal-reads _ _ read.before.before.decimal-at.ensures read.n.given.1)
     (sym c.before.has.ensures ∙ c.if1.false))
 
-pub label-at-spec : {M : Type 1} → Rattle.items.proofs.label_at.Statement.statement M
-label-at-spec = tie.close (tie.spec (search needs) (search needs) (search needs) add-t9
+pub label_at_spec : {M : Type 1} → Rattle.items.proofs.label_at.Statement.statement M
+label_at_spec = tie.close (tie.spec (search needs) (search needs) (search needs) add-t9
     (λ c. a-label _ _ (search decimal-reads) (sym c.before.has.ensures ∙ c.if1.true)) (search needs) returns-2
     (λ c. search (no_item, label-none, decimal-fails)))

@@ -6,9 +6,9 @@ use Rattle.items.proofs.Decimals.{decimal-reads, decimal-fails}
 use Rattle.items.proofs.Operands.{an-operand, no_operand, labelled-reads, labelled-fails}
 use Rattle.items.proofs.labelled.Tie as tie
 
-pub labelled-spec : {M : Type 1} → Rattle.items.proofs.labelled.Statement.statement M
+pub labelled_spec : {M : Type 1} → Rattle.items.proofs.labelled.Statement.statement M
 unfolding as_operand
-labelled-spec = tie.close
+labelled_spec = tie.close
     (tie.spec (λ c. omega (arith, inside c.before.args.text.now c.before.args.at c.before.requires (omega arith))) (search needs)
     (search needs) (search needs)
     (λ c. an-operand labelled _ _ (labelled-reads _ _ c.before.before.before.before.before.requires (search decimal-reads)))

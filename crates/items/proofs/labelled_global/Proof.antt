@@ -15,8 +15,8 @@ returns-3 c = let read = c.before.before.before in
     let number = decimal-reads _ _ called.decimal-at.ensures read.m.given.1 in
     no_item _ (global-open _ _ _ (search (byte_reads, held)) number (search ended-fails))
 
-pub labelled-global-spec : {M : Type 1} → Rattle.items.proofs.labelled_global.Statement.statement M
-labelled-global-spec = tie.close
+pub labelled_global_spec : {M : Type 1} → Rattle.items.proofs.labelled_global.Statement.statement M
+labelled_global_spec = tie.close
     (tie.spec (search needs) (λ c. search (no_item, global-short, failed)) add-decimal-at (search needs) (search needs) (search needs)
     (λ c. search (a-global, byte_reads, held, decimal-reads, ended-reads)) (search needs) returns-3
     (λ c. search (no_item, global-unlabelled, byte_reads, held, decimal-fails)))

@@ -8,7 +8,7 @@ add-past-gap c = let text = c.before.before.before.args.text.now in
     let at = c.before.before.before.args.at in
     omega (arith, inside text at c.before.before.before.requires (omega arith))
 
-pub last-at-spec : {M : Type 1} → Rattle.items.proofs.last_at.Statement.statement M
-last-at-spec = tie.close
+pub last_at_spec : {M : Type 1} → Rattle.items.proofs.last_at.Statement.statement M
+last_at_spec = tie.close
     (tie.spec (search needs) (λ c. search (last-unread, not-true)) add-past-gap (search needs) (λ c. search (last-whole, not-false))
     (λ c. search (last_more, not-false)))

@@ -6,9 +6,9 @@ use Rattle.items.proofs.Decimals.{decimal-reads, decimal-fails}
 use Rattle.items.proofs.Operands.{an-operand, no_operand, negative-reads, negative-fails}
 use Rattle.items.proofs.negative.Tie as tie
 
-pub negative-spec : {M : Type 1} → Rattle.items.proofs.negative.Statement.statement M
+pub negative_spec : {M : Type 1} → Rattle.items.proofs.negative.Statement.statement M
 unfolding as_operand
-negative-spec = tie.close
+negative_spec = tie.close
     (tie.spec (λ c. omega (arith, inside c.before.args.text.now c.before.args.at c.before.requires (omega arith))) (search needs)
     (search needs) (search needs)
     (λ c. an-operand negative _ _ (negative-reads _ _ c.before.before.before.before.before.requires (search decimal-reads)))

@@ -14,6 +14,6 @@ returns-3 c = let text = c.before.before.before.before.before.before.before.args
     element-none text c.before.before.before.before.before.past-gap.result
     (eqb-false _ _ (sym (search needs) ∙ c.before.before.before.if1.false)) (search item-fails) ∙ ap as_next (search next-at)
 
-pub next-in-spec : {M : Type 1} → Rattle.items.proofs.next_in.Statement.statement M
-next-in-spec = tie.close (tie.spec (search needs) (search needs) (λ c κs. eqb-true _ _ (sym c.before.has.ensures ∙ c.if1.true))
+pub next_in_spec : {M : Type 1} → Rattle.items.proofs.next_in.Statement.statement M
+next_in_spec = tie.close (tie.spec (search needs) (search needs) (λ c κs. eqb-true _ _ (sym c.before.has.ensures ∙ c.if1.true))
     (λ c. c.last-at.ensures ∙ ap as_next (search next-at)) (search needs) (search needs) (search needs) returns-2 returns-3)

@@ -3,8 +3,8 @@ use Rattle.items.specs.Parts.{as_operand_at}
 use Rattle.items.proofs.Operands.{operand-minus, operand-quote, operand-label, operand-plain}
 use Rattle.items.proofs.operand_at.Tie as tie
 
-pub operand-at-spec : {M : Type 1} → Rattle.items.proofs.operand_at.Statement.statement M
-operand-at-spec = tie.close (tie.spec (search needs) (search needs) (search needs) (search needs) (search needs)
+pub operand_at_spec : {M : Type 1} → Rattle.items.proofs.operand_at.Statement.statement M
+operand_at_spec = tie.close (tie.spec (search needs) (search needs) (search needs) (search needs) (search needs)
     (λ c. c.negative.ensures ∙ sym (ap (as_operand_at _) (search operand-minus)))
     (λ c. c.quotation.ensures ∙ sym (ap (as_operand_at _) (search operand-quote)))
     (λ c. c.labelled.ensures ∙ sym (ap (as_operand_at _) (search operand-label)))

@@ -25,7 +25,7 @@ loop-again c = let text = c.before.before.before.before.before.before.before.arg
           (omega arith) c.before.before.in-gap.ensures (not-false _ c.before.if1.false) c.in-comment.ensures,
     )
 
-pub past-gap-spec : {M : Type 1} → Rattle.items.proofs.past_gap.Statement.statement M
-past-gap-spec = tie.close
+pub past_gap_spec : {M : Type 1} → Rattle.items.proofs.past_gap.Statement.statement M
+past_gap_spec = tie.close
     (tie.spec invariant-loop decreases-loop (search needs) (search needs) (search needs) returns (search needs) (λ c. omega arith) (λ c. omega arith) loop-again
     (λ c. omega (arith, gap-end c.before.before.before.args.text.now c.before.loop.i c.before.loop.comment (omega arith))))

@@ -9,5 +9,5 @@ returns : tie.Need-returns
 unfolding as_operand
 returns c = an-operand positive _ _ (positive-reads _ _ (search decimal-reads))
 
-pub positive-spec : {M : Type 1} → Rattle.items.proofs.positive.Statement.statement M
-positive-spec = tie.close (tie.spec (search needs) (search needs) (search needs) returns (λ c. search (no_operand, positive-fails, decimal-fails)))
+pub positive_spec : {M : Type 1} → Rattle.items.proofs.positive.Statement.statement M
+positive_spec = tie.close (tie.spec (search needs) (search needs) (search needs) returns (λ c. search (no_operand, positive-fails, decimal-fails)))

@@ -37,8 +37,8 @@ returns-4 : tie.Need-returns-4
 returns-4 c = let called = c.before.before in let start = called.before.before in
     no_operand _ (quotation-faulty _ start.args.at start.requires (when-faulty _ called.quoted-at.ensures c.enum-told2.given.1))
 
-pub quotation-spec : {M : Type 1} → Rattle.items.proofs.quotation.Statement.statement M
-quotation-spec = tie.close
+pub quotation_spec : {M : Type 1} → Rattle.items.proofs.quotation.Statement.statement M
+quotation_spec = tie.close
     (tie.spec (λ c. let start = c.before in omega (arith, inside start.args.text.now start.args.at start.requires (omega arith)))
     (search needs) (search needs) returns add-value-at (search needs) (search needs) add-t10 add-t13 (search needs) (search needs) returns-2
     (λ c. search (no_operand, quotation-unclosed, when-unclosed)) returns-4)

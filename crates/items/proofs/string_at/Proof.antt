@@ -36,7 +36,7 @@ returns-5 : tie.Need-returns-5
 returns-5 c = let called = c.before.before in let at = called.before.before.before.before.args.at in
     no_item _ (string-faulty _ at (search (byte_reads, held)) (when-faulty _ called.quoted-at.ensures c.enum-told2.given.1))
 
-pub string-at-spec : {M : Type 1} → Rattle.items.proofs.string_at.Statement.statement M
-string-at-spec = tie.close
+pub string_at_spec : {M : Type 1} → Rattle.items.proofs.string_at.Statement.statement M
+string_at_spec = tie.close
     (tie.spec (search needs) (λ c. search (no_item, string-none, failed)) add-quoted-at (search needs) (search needs) add-past add-past-2
     (search needs) returns-2 (search needs) (search needs) returns-3 returns-4 returns-5)

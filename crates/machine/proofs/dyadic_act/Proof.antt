@@ -3,9 +3,9 @@ use Rattle.machine.proofs.Numbers.{dyadic-act-is, dyadic-act-divides, dyadic-act
 use Rattle.laws.proofs.Basics.{needs}
 use Rattle.machine.proofs.dyadic_act.Tie as tie
 
-pub dyadic-act-spec : {M : Type 1} → Rattle.machine.proofs.dyadic_act.Statement.statement M
+pub dyadic_act_spec : {M : Type 1} → Rattle.machine.proofs.dyadic_act.Statement.statement M
 unfolding value_of
-dyadic-act-spec = tie.close
+dyadic_act_spec = tie.close
     (tie.spec (search needs) (search needs) (search needs) (search needs) (search needs) (search needs) (search needs) (search needs) (search needs)
     (search needs) (search needs) (search needs) (search needs) (search needs) (search needs) (search needs) (search needs)
     (λ c. search dyadic-act-is) (λ c. search dyadic-act-divides) (λ c. search dyadic-act-divides) (λ c. search dyadic-act-is)

@@ -9,8 +9,8 @@ invariant-loop memory a default n from i₀ left₀ i left = searched memory a d
 abbrev decreases-loop : tie.decreases-loop
 decreases-loop memory a default n from i₀ left₀ i left = left
 
-pub switch-address-spec : {M : Type 1} → Rattle.machine.proofs.switch_address.Statement.statement M
-switch-address-spec = tie.close
+pub switch_address_spec : {M : Type 1} → Rattle.machine.proofs.switch_address.Statement.statement M
+switch_address_spec = tie.close
     (tie.spec invariant-loop decreases-loop (λ _. refl) (search needs) (search needs) (λ c. search switch-address-stops) (search needs) (search needs)
     (search needs) (λ c. search switch-address-hits) (search needs) (λ c. omega arith) (λ c. omega arith) (λ c. search switch-address-goes)
     (λ c. search switch-address-none))

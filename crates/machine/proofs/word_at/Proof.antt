@@ -3,7 +3,7 @@ use Rattle.machine.specs.Outcome.{read}
 use Rattle.machine.specs.Answers.{as_word}
 use Rattle.machine.proofs.word_at.Tie as tie
 
-pub word-at-spec : {M : Type 1} → Rattle.machine.proofs.word_at.Statement.statement M
+pub word_at_spec : {M : Type 1} → Rattle.machine.proofs.word_at.Statement.statement M
 unfolding read as_word
-word-at-spec = tie.close
+word_at_spec = tie.close
     (tie.spec (search needs) (search needs) (λ c. simp (lt-ltb _ _ c.before.if1.true)) (λ c. simp (le-ltb _ _ c.if1.false)))

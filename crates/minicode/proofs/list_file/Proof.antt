@@ -3,7 +3,7 @@ use Rattle.messages.proofs.Loads.{loaded, loaded-part}
 use Rattle.laws.proofs.Basics.{needs}
 use Rattle.minicode.proofs.list_file.Tie as tie
 
-pub list-file-spec : {M : Type 1} → Rattle.minicode.proofs.list_file.Statement.statement M
-list-file-spec = tie.close
+pub list_file_spec : {M : Type 1} → Rattle.minicode.proofs.list_file.Statement.statement M
+list_file_spec = tie.close
     (tie.spec (search needs) (search needs) (search needs) (search needs) (search needs) (search needs) (search needs) (λ c. search loaded)
     (λ c. search loaded-part) (search needs) (search needs))

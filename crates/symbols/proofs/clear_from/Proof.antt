@@ -8,6 +8,6 @@ invariant-loop scratch₀ from i₀ scratch i = Clearing scratch₀ from scratch
 abbrev decreases-loop : tie.decreases-loop
 decreases-loop scratch₀ from i₀ scratch i = length scratch₀ - i
 
-pub clear-from-spec : {M : Type 1} → Rattle.symbols.proofs.clear_from.Statement.statement M
-clear-from-spec = tie.close (tie.spec invariant-loop decreases-loop (λ c. search clearing-starts) (search needs) (search needs) (search needs) (search needs)
+pub clear_from_spec : {M : Type 1} → Rattle.symbols.proofs.clear_from.Statement.statement M
+clear_from_spec = tie.close (tie.spec invariant-loop decreases-loop (λ c. search clearing-starts) (search needs) (search needs) (search needs) (search needs)
     (λ c. search (needs, clearing-goes-on)) (search needs) (λ c. search (needs, clearing-ends)))

@@ -31,8 +31,8 @@ loop-less c = let matched = c.before.before.before in let called = matched.befor
     let read = when-gap (element_at text head.loop.i) called.element-at.ensures matched.element3.given.1 in
     omega (arith, gap-inside _ _ _ head.loop.invariant called.before.loop-test.true read)
 
-pub next-symbol-spec : {M : Type 1} → Rattle.symbols.proofs.next_symbol.Statement.statement M
-next-symbol-spec = tie.close
+pub next_symbol_spec : {M : Type 1} → Rattle.symbols.proofs.next_symbol.Statement.statement M
+next_symbol_spec = tie.close
     (tie.spec invariant-loop decreases-loop (λ c. search seek-start) (λ c κs. search needs) (λ c. search needs) add-t16 (λ c. search (seek-symbol, when-symbol))
     (λ c. search needs) add-t17 (λ c. search (seek-wrong, when-wrong)) (λ c. search needs) (λ c. search needs) (λ c κs. search needs) add-i loop-less
     (λ c. rw c.or-newline.ensures (search (seek-gap, when-gap))) (λ c. search seek-end))

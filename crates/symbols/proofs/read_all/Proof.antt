@@ -12,8 +12,8 @@ invariant-loop classes table text stack₀ scratch₀ at₀ depth₀ count₀ be
 abbrev decreases-loop : tie.decreases-loop
 decreases-loop classes table text stack₀ scratch₀ at₀ depth₀ count₀ before₀ strings₀ stack scratch at depth count before strings = length text - at
 
-pub read-all-spec : {M : Type 1} → Rattle.symbols.proofs.read_all.Statement.statement M
-read-all-spec = tie.close
+pub read_all_spec : {M : Type 1} → Rattle.symbols.proofs.read_all.Statement.statement M
+read_all_spec = tie.close
     (tie.spec invariant-loop decreases-loop (λ c. (going_start _ _, search putting-start)) (λ c κs. (c.loop.invariant.0.within, search needs, search needs))
     (search needs) (search needs) (search needs) (search needs) (λ c. search (refused, going-wrong)) (search needs) (search needs) (search needs)
     (search needs) (λ c. search (refused, going-open)) (search needs) (search needs) (search needs) (search needs)

@@ -1,5 +1,5 @@
 use Rattle.laws.proofs.Basics.{needs, eq-eqb, ne_eqb}
 use Rattle.symbols.proofs.strings_past.Tie as tie
 
-pub strings-past-spec : {M : Type 1} → Rattle.symbols.proofs.strings_past.Statement.statement M
-strings-past-spec = tie.close (tie.spec (search needs) (λ c. rw (eq-eqb _ 61 c.if1.true)) (λ c. rw (ne_eqb _ 61 c.if1.false)))
+pub strings_past_spec : {M : Type 1} → Rattle.symbols.proofs.strings_past.Statement.statement M
+strings_past_spec = tie.close (tie.spec (search needs) (λ c. rw (eq-eqb _ 61 c.if1.true)) (λ c. rw (ne_eqb _ 61 c.if1.false)))

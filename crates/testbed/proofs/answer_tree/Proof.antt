@@ -13,7 +13,7 @@ returns-3 c =
     tree-refused c.before.before.before.before.before.before.before.read-tree.ensures c.before.before.before.read2.given.1
     c.before.Line-of.ensures
 
-pub answer-tree-spec : {M : Type 1} → Rattle.testbed.proofs.answer_tree.Statement.statement M
-answer-tree-spec = tie.close
+pub answer_tree_spec : {M : Type 1} → Rattle.testbed.proofs.answer_tree.Statement.statement M
+answer_tree_spec = tie.close
     (tie.spec (search needs) (search needs) (search needs) (search needs) (search needs) (search needs) (search needs) returns (search needs)
     returns-2 (search needs) returns-3)

@@ -152,9 +152,9 @@ module _ {M : Type 1} {𝓤 : Ura M} (𝓛 : Logic 𝓤) (at_mem : Memory → SP
   )) (λ κs qs bounds a g are. walk κs.0 κs.1.0 κs.1.1.0 κs.1.1.1.0 qs.0 qs.1.0 qs.1.1.0 qs.1.1.1.0 a.0
       a.1.0 a.1.1.0 a.1.1.1.0 are.0.0.1 are.1.0.0.1 are.1.1.0.0.1)
 
-pub morkvasil-assemble-spec : {M : Type 1} → stated.statement M
+pub morkvasil_assemble_spec : {M : Type 1} → stated.statement M
 unfolding code.routine tables_of
-morkvasil-assemble-spec 𝓤 𝓛 𝓜 𝓡 =
+morkvasil_assemble_spec 𝓤 𝓛 𝓜 𝓡 =
     entered 𝓤 𝓛.H _ (tables 𝓤 𝓛.H 𝓜 𝓡 code.env).C (tables 𝓤 𝓛.H 𝓜 𝓡 code.env).Λ #exported code.function (code.unfolded 𝓤 𝓛.H 𝓜 𝓡)
     (exported-meets 𝓛 𝓜.mem 𝓡.run (tables_of 𝓤 𝓛.H 𝓜 (tables 𝓤 𝓛.H 𝓜 𝓡 code.env))
     (cited 𝓤 𝓛.H _ 𝓜 𝓡 code.env #assemble assemble-routine code.calls-assembler::assemble (assemble-thm.met 𝓤 𝓛 𝓜 𝓡))

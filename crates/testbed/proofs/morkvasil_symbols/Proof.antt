@@ -16,7 +16,7 @@ returns-4 c =
     symbols-refused c.before.before.before.before.before.before.before.read-symbols.ensures c.before.before.before.read2.given.1
     c.before.Line-of.ensures
 
-pub morkvasil-symbols-spec : {M : Type 1} → Rattle.testbed.proofs.morkvasil_symbols.Statement.statement M
-morkvasil-symbols-spec = tie.close
+pub morkvasil_symbols_spec : {M : Type 1} → Rattle.testbed.proofs.morkvasil_symbols.Statement.statement M
+morkvasil_symbols_spec = tie.close
     (tie.spec (search needs) (search needs) (search needs) (search needs) (search needs) (search needs) (search needs) (search needs) returns
     (search needs) returns-2 (search needs) returns-3 (search needs) returns-4)

@@ -17,7 +17,7 @@ returns-4 c =
     symbol-refused c.before.before.before.before.before.before.before.read-symbols.ensures c.before.before.before.read2.given.1
     c.before.Line-of.ensures
 
-pub morkvasil-tree-spec : {M : Type 1} → Rattle.testbed.proofs.morkvasil_tree.Statement.statement M
-morkvasil-tree-spec = tie.close
+pub morkvasil_tree_spec : {M : Type 1} → Rattle.testbed.proofs.morkvasil_tree.Statement.statement M
+morkvasil_tree_spec = tie.close
     (tie.spec (search needs) (search needs) (search needs) (search needs) (search needs) (search needs) (search needs) (search needs) (search needs)
     returns (search needs) returns-2 (search needs) returns-3 (search needs) returns-4)

@@ -2,7 +2,7 @@ use Rattle.laws.proofs.Basics.{sym, ap, needs}
 use Rattle.assembler.specs.Assemble.{numbers}
 use Rattle.testbed.proofs.tell.Tie as tie
 
-pub tell-spec : {M : Type 1} → Rattle.testbed.proofs.tell.Statement.statement M
-tell-spec = tie.close
+pub tell_spec : {M : Type 1} → Rattle.testbed.proofs.tell.Statement.statement M
+tell_spec = tie.close
     (tie.spec (search needs) (search needs) (search needs) (search needs) (λ c. sym (ap numbers c.before.before.assembly.given.1))
     (λ c. sym (ap numbers c.before.before.before.assembly2.given.1)))

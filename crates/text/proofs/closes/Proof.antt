@@ -47,7 +47,7 @@ loop-again-2 c = let called = c.before.before in let head = called.before in
     let mistake = when-mistake _ called.character-at.ensures c.enum-told3.given.1 in
     head.loop.invariant ∙ closes-mistake _ head.before.before.args.text.now head.loop.i mistake
 
-pub closes-spec : {M : Type 1} → Rattle.text.proofs.closes.Statement.statement M
-closes-spec = tie.close
+pub closes_spec : {M : Type 1} → Rattle.text.proofs.closes.Statement.statement M
+closes_spec = tie.close
     (tie.spec invariant-loop decreases-loop (λ c. refl) (search needs) (search needs) add-i loop-less loop-again (search needs) returns (search needs) returns-2
     (search needs) add-i-2 loop-less-2 loop-again-2)

@@ -5,9 +5,9 @@ use Rattle.text.proofs.Answers.{told_is, told-mistake}
 use Rattle.text.proofs.Quotes.{escape-past, escape-here, by-number-here}
 use Rattle.text.proofs.escape.Tie as tie
 
-pub escape-spec : {M : Type 1} → Rattle.text.proofs.escape.Statement.statement M
+pub escape_spec : {M : Type 1} → Rattle.text.proofs.escape.Statement.statement M
 unfolding escape
-escape-spec = tie.close (tie.spec (λ c. search (told-mistake, escape-past)) (search needs) (search needs)
+escape_spec = tie.close (tie.spec (λ c. search (told-mistake, escape-past)) (search needs) (search needs)
     (λ c. told_is (escape-here _ _ c.before.before.if1.false c.match.keys1 refl))
     (λ c. told_is (escape-here _ _ c.before.before.if1.false c.match.keys2 refl))
     (λ c. told_is (escape-here _ _ c.before.before.if1.false c.match.keys3 refl))

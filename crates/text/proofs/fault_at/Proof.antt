@@ -13,5 +13,5 @@ returns-2 c = let args = c.before.before.before.args in
     let rest = quoted args.quote 0 0 (drop args.at args.text.now) in
     fault-unclosed _ _ rest (sym c.before.closes.ensures ∙ c.if1.false)
 
-pub fault-at-spec : {M : Type 1} → Rattle.text.proofs.fault_at.Statement.statement M
-fault-at-spec = tie.close (tie.spec (search needs) returns returns-2)
+pub fault_at_spec : {M : Type 1} → Rattle.text.proofs.fault_at.Statement.statement M
+fault_at_spec = tie.close (tie.spec (search needs) returns returns-2)

@@ -19,8 +19,8 @@ loop-again c = let head = c.before.before.before.before in let args = head.befor
     ⊎_elim (λ w. omega (arith, between-newline args.text.now args.place i (omega arith) (omega arith) w.0.taken))
     (λ w. omega (arith, between-other args.text.now args.place i (omega arith) (omega arith) w.0.left)) c.if2.branch
 
-pub line-of-spec : {M : Type 1} → Rattle.text.proofs.line_of.Statement.statement M
-line-of-spec = tie.close
+pub line_of_spec : {M : Type 1} → Rattle.text.proofs.line_of.Statement.statement M
+line_of_spec = tie.close
     (tie.spec invariant-loop decreases-loop (λ c. omega (arith, between-all c.args.text.now c.args.place)) returns (search needs) (λ c. omega arith)
     (λ c. omega arith) (λ c. omega arith) loop-again
     (λ c. omega (arith, between-past c.before.before.args.text.now c.before.before.args.place c.before.loop.i (omega arith))))

@@ -52,8 +52,8 @@ returns-4 c = let matched = c.before.before in let called = matched.before.befor
     let mistake = when-mistake _ called.character-at.ensures matched.c2.given.1 in
     c.fault-at2.ensures ∙ constant-mistake _ _ _ _ head.loop.i head.loop.n mistake ∙ sym head.loop.invariant.2
 
-pub quoted-at-spec : {M : Type 1} → Rattle.text.proofs.quoted_at.Statement.statement M
-quoted-at-spec = tie.close (tie.spec invariant-loop decreases-loop
+pub quoted_at_spec : {M : Type 1} → Rattle.text.proofs.quoted_at.Statement.statement M
+quoted_at_spec = tie.close (tie.spec invariant-loop decreases-loop
     (λ c. let args = c.before.args in (omega arith, omega arith, constant-start args.quote args.room args.text.now args.at))
     (search needs) (search needs) (search needs) (search needs) returns (λ c. omega arith) add-i loop-less loop-again (search needs) (search needs)
     add-t13 (λ c. constant-end _ _ _ _ _ _ (search when-closing) ∙ sym c.before.before.before.loop.invariant.2) (search needs)

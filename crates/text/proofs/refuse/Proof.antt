@@ -2,6 +2,6 @@ use Rattle.text.specs.Line.{refusal}
 use Rattle.laws.proofs.Basics.{needs}
 use Rattle.text.proofs.refuse.Tie as tie
 
-pub refuse-spec : {M : Type 1} → Rattle.text.proofs.refuse.Statement.statement M
+pub refuse_spec : {M : Type 1} → Rattle.text.proofs.refuse.Statement.statement M
 unfolding refusal
-refuse-spec = tie.close (tie.spec (search needs) (λ c. rw c.Line-of.ensures))
+refuse_spec = tie.close (tie.spec (search needs) (λ c. rw c.Line-of.ensures))

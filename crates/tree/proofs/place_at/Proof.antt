@@ -5,6 +5,6 @@ use Rattle.tree.proofs.place_at.Tie as tie
 cast-result : tie.Need-overflow-cast-result
 cast-result c = omega (arith, c.shared-slice-known.given (c.before.before.args.at * 3 + 2))
 
-pub place-at-spec : {M : Type 1} → Rattle.tree.proofs.place_at.Statement.statement M
-place-at-spec = tie.close (tie.spec (search needs) (search needs) (search needs) (search needs) cast-result
+pub place_at_spec : {M : Type 1} → Rattle.tree.proofs.place_at.Statement.statement M
+place_at_spec = tie.close (tie.spec (search needs) (search needs) (search needs) (search needs) cast-result
     (λ c. (lies _ _ _).places _ c.before.if1.true) (λ c. search place-past))

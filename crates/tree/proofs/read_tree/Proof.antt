@@ -2,8 +2,8 @@ use Rattle.laws.proofs.Basics.{sym, ◌∙◌, arith, needs}
 use Rattle.tree.proofs.Decoded.{lies, starts, tree-short, tree-read, tree-refused, end-inside}
 use Rattle.tree.proofs.read_tree.Tie as tie
 
-pub read-tree-spec : {M : Type 1} → Rattle.tree.proofs.read_tree.Statement.statement M
-read-tree-spec = tie.close (tie.spec (search needs) (search needs) (λ c. tree-short _ _ _ (sym c.before.too_short.ensures ∙ c.if1.true))
+pub read_tree_spec : {M : Type 1} → Rattle.tree.proofs.read_tree.Statement.statement M
+read_tree_spec = tie.close (tie.spec (search needs) (search needs) (λ c. tree-short _ _ _ (sym c.before.too_short.ensures ∙ c.if1.true))
     -- mul-start
     (λ c. let too_short = c.before in let start = too_short.before.before.before in
     let h = starts start.args.scratch.now start.args.count (sym too_short.too_short.ensures ∙ c.if1.false) in

@@ -3,6 +3,6 @@ use Rattle.words.specs.Words.{mul}
 use Rattle.words.proofs.Laws.{wide}
 use Rattle.words.proofs.product.Tie as tie
 
-pub product-spec : {M : Type 1} → Rattle.words.proofs.product.Statement.statement M
+pub product_spec : {M : Type 1} → Rattle.words.proofs.product.Statement.statement M
 unfolding mul
-product-spec = tie.close (tie.spec (λ c. record { fits = wide (search needs) (search needs) }) (search needs) (λ c. refl))
+product_spec = tie.close (tie.spec (λ c. record { fits = wide (search needs) (search needs) }) (search needs) (λ c. refl))

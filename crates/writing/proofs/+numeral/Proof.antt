@@ -21,7 +21,7 @@ numeral-below t = and 1 numeral-kinds.ps (falls 1 numeral-kinds.ps ◌<◌ μ-nu
 abbrev numeral-cs : ℕ → numeral-lts.Claims
 numeral-cs t = (emit-reads.Asked, emit-reads.Learnt, numeral-below t, numeral.Post)
 
-pub +numeral-spec : {M : Type 1} → statement M
-+numeral-spec = close μ-numeral λ t. numeral-lts.spec (numeral-cs t) (numeral-at t) numeral.Post (search needs) (search needs)
+pub +numeral_spec : {M : Type 1} → statement M
++numeral_spec = close μ-numeral λ t. numeral-lts.spec (numeral-cs t) (numeral-at t) numeral.Post (search needs) (search needs)
     (search needs) (search needs) (λ c. search (appends-as, numeral-one)) (λ c κs. omega arith)
     (search needs) (search needs) (search needs) (search needs) (λ c. search (appends-as, appends-then, numeral-more))

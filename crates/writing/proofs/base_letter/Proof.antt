@@ -11,8 +11,8 @@ returns-3 : tie.Need-returns-3
 unfolding base_text
 returns-3 c = rw c.before.before.before.before.enum-told3.given.1 c.before.before.emit2.ensures
 
-pub base-letter-spec : {M : Type 1} → Rattle.writing.proofs.base_letter.Statement.statement M
+pub base_letter_spec : {M : Type 1} → Rattle.writing.proofs.base_letter.Statement.statement M
 unfolding base_text
-base-letter-spec = tie.close
+base_letter_spec = tie.close
     (tie.spec (search needs) (search needs) (search needs) (search needs) (search needs) (λ c. rw c.enum_told.given.1 appends-none)
     (search needs) returns-2 (search needs) returns-3)

@@ -7,6 +7,6 @@ returns : tie.Need-returns
 unfolding indirect_text
 returns c = rw c.before.before.before.before.if1.true c.before.before.emit.ensures
 
-pub indirect-spec : {M : Type 1} → Rattle.writing.proofs.indirect.Statement.statement M
+pub indirect_spec : {M : Type 1} → Rattle.writing.proofs.indirect.Statement.statement M
 unfolding indirect_text
-indirect-spec = tie.close (tie.spec (search needs) (search needs) returns (λ c. rw c.if1.false appends-none))
+indirect_spec = tie.close (tie.spec (search needs) (search needs) returns (λ c. rw c.if1.false appends-none))

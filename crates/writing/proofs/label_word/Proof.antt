@@ -8,5 +8,5 @@ returns : tie.Need-returns
 unfolding line render operand_text
 returns c = appends-then c.before.before.before.before.before.before.emit.ensures c.before.before.last-label.ensures
 
-pub label-word-spec : {M : Type 1} → Rattle.writing.proofs.label_word.Statement.statement M
-label-word-spec = tie.close (tie.spec (search needs) (search needs) (search needs) returns)
+pub label_word_spec : {M : Type 1} → Rattle.writing.proofs.label_word.Statement.statement M
+label_word_spec = tie.close (tie.spec (search needs) (search needs) (search needs) returns)

@@ -5,5 +5,5 @@ use Rattle.writing.proofs.last_label.Tie as tie
 returns : tie.Need-returns
 returns c = appends-then c.before.before.before.before.before.before.emit.ensures c.before.before.last.ensures
 
-pub last-label-spec : {M : Type 1} → Rattle.writing.proofs.last_label.Statement.statement M
-last-label-spec = tie.close (tie.spec (search needs) (search needs) (search needs) returns)
+pub last_label_spec : {M : Type 1} → Rattle.writing.proofs.last_label.Statement.statement M
+last_label_spec = tie.close (tie.spec (search needs) (search needs) (search needs) returns)

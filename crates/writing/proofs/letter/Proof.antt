@@ -3,6 +3,6 @@ use Rattle.laws.proofs.Basics.{refl, needs}
 use Rattle.writing.proofs.Laws.{letter-past}
 use Rattle.writing.proofs.letter.Tie as tie
 
-pub letter-spec : {M : Type 1} → Rattle.writing.proofs.letter.Statement.statement M
+pub letter_spec : {M : Type 1} → Rattle.writing.proofs.letter.Statement.statement M
 unfolding letter
-letter-spec = tie.close (tie.spec (search needs) (λ _. refl) (λ c. search letter-past))
+letter_spec = tie.close (tie.spec (search needs) (λ _. refl) (λ c. search letter-past))

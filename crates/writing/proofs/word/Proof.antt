@@ -8,5 +8,5 @@ returns : tie.Need-returns
 unfolding line render operand_text
 returns c = appends-then c.before.before.before.before.before.before.emit.ensures c.before.before.last.ensures
 
-pub word-spec : {M : Type 1} → Rattle.writing.proofs.word.Statement.statement M
-word-spec = tie.close (tie.spec (search needs) (search needs) (search needs) returns)
+pub word_spec : {M : Type 1} → Rattle.writing.proofs.word.Statement.statement M
+word_spec = tie.close (tie.spec (search needs) (search needs) (search needs) returns)

@@ -7,8 +7,8 @@ abbrev invariant-loop : tie.invariant-loop
 invariant-loop source s from end top text₀ first at₀ k₀ r₀ text at k r = (length text ≡ length text₀) × Still r₀ r × (k ≤ first + at) ×
     ((y : Listed (CommandAt s) s from end top) → Sound source y.scope (flat y.all) → TablePart source first text₀ r₀ y text at k r)
 
-pub all-pairs-spec : {M : Type 1} → Rattle.compiler.proofs.labels.all_pairs.Statement.statement M
-all-pairs-spec =
+pub all_pairs_spec : {M : Type 1} → Rattle.compiler.proofs.labels.all_pairs.Statement.statement M
+all_pairs_spec =
     tie.close (tie.spec invariant-loop (λ source s from end top text₀ first at₀ k₀ r₀ text at k r. end - at) (λ c. search (needs, still-here, table-begin))
     (search needs) (λ c κs. omega arith) (λ c _. c.before.labels-of.ensures.small) (λ c. omega arith) (λ c. omega arith)
     -- loop-again

@@ -2,7 +2,7 @@ use Rattle.compiler.proofs.Rows.{by-none, by-judged, by_zero}
 use Rattle.laws.proofs.Basics.{needs}
 use Rattle.compiler.proofs.labels.by_constant.Tie as tie
 
-pub by-constant-spec : {M : Type 1} → Rattle.compiler.proofs.labels.by_constant.Statement.statement M
-by-constant-spec = tie.close (tie.spec (λ c. search by-none) (search needs)
+pub by_constant_spec : {M : Type 1} → Rattle.compiler.proofs.labels.by_constant.Statement.statement M
+by_constant_spec = tie.close (tie.spec (λ c. search by-none) (search needs)
     (λ c. by-judged _ c.before.before.before.if1.false c.before.before.judge.ensures (λ e w. c.if2.true e)) (λ c. search by-judged)
     (search needs) (search needs) (λ c. search by_zero))

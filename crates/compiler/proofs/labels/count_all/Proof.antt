@@ -8,8 +8,8 @@ abbrev invariant-loop : tie.invariant-loop
 invariant-loop s from end at₀ n₀ at n =
     (n ≤ at * 2 ^ 32) × ((lss : List (List Label)) → Row (CommandAt s) s end from lss → CountPart (commands s) s end at n lss)
 
-pub count-all-spec : {M : Type 1} → Rattle.compiler.proofs.labels.count_all.Statement.statement M
-count-all-spec = tie.close (tie.spec invariant-loop (λ s from end at₀ n₀ at n. end - at) (λ c. (omega arith, λ lss r. search count-begin)) (search needs)
+pub count_all_spec : {M : Type 1} → Rattle.compiler.proofs.labels.count_all.Statement.statement M
+count_all_spec = tie.close (tie.spec invariant-loop (λ s from end at₀ n₀ at n. end - at) (λ c. (omega arith, λ lss r. search count-begin)) (search needs)
     (λ c κs. omega arith) (λ c _. c.labels-of.ensures.small) (λ c. omega arith) (λ c. omega arith)
     -- loop-again
     (λ c. (

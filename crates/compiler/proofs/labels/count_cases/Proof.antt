@@ -7,8 +7,8 @@ use Rattle.compiler.proofs.labels.count_cases.Tie as tie
 abbrev invariant-loop : tie.invariant-loop
 invariant-loop s from end at₀ n₀ at n = (n ≤ at) × (n ≤ end) × ((ls : List Label) → Row (LabelAt s) s end from ls → CountPart (labels s) s end at n ls)
 
-pub count-cases-spec : {M : Type 1} → Rattle.compiler.proofs.labels.count_cases.Statement.statement M
-count-cases-spec =
+pub count_cases_spec : {M : Type 1} → Rattle.compiler.proofs.labels.count_cases.Statement.statement M
+count_cases_spec =
     tie.close (tie.spec invariant-loop (λ s from end at₀ n₀ at n. end - at) (λ c. (omega arith, omega arith, λ ls r. search count-begin)) (search needs)
     (search needs) (λ c. omega arith) (λ c. omega arith)
     (λ c. (omega arith, omega arith, λ ls r. search (count_next, labels, c.before.before.before.loop.invariant.2))) (λ c. record {

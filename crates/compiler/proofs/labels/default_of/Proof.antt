@@ -8,8 +8,8 @@ abbrev invariant-loop : tie.invariant-loop
 invariant-loop s from end first done at₀ k₀ at k =
     (k ≤ first + at) × ((lss : List (List Label)) → Row (CommandAt s) s end from lss → DefaultPart s end first done at k lss)
 
-pub default-of-spec : {M : Type 1} → Rattle.compiler.proofs.labels.default_of.Statement.statement M
-default-of-spec =
+pub default_of_spec : {M : Type 1} → Rattle.compiler.proofs.labels.default_of.Statement.statement M
+default_of_spec =
     tie.close (tie.spec invariant-loop (λ s from end first done at₀ k₀ at k. end - at) (λ c. (omega arith, λ lss r. search default-begin)) (search needs)
     (λ c κs. omega arith) (λ c _. c.labels-of.ensures.small) (λ c. search default-found) (λ c. omega arith) (λ c. omega arith)
     (λ c. (omega arith, λ lss r. search (default-next, c.before.before.before.before.before.loop.invariant.1)))

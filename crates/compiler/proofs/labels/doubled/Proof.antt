@@ -6,8 +6,8 @@ use Rattle.compiler.proofs.labels.doubled.Tie as tie
 abbrev invariant-loop : tie.invariant-loop
 invariant-loop source s from end top seen₀ at₀ r₀ seen at r = (length seen ≡ 8193) × ((y : ReadyLabels s from end top) → ListPart source r₀ y seen at r)
 
-pub doubled-spec : {M : Type 1} → Rattle.compiler.proofs.labels.doubled.Statement.statement M
-doubled-spec = tie.close (tie.spec invariant-loop (λ source s from end top seen₀ at₀ r₀ seen at r. end - at) (search needs)
+pub doubled_spec : {M : Type 1} → Rattle.compiler.proofs.labels.doubled.Statement.statement M
+doubled_spec = tie.close (tie.spec invariant-loop (λ source s from end top seen₀ at₀ r₀ seen at r. end - at) (search needs)
     (λ c. (search marks-long, λ y. search list-begin)) (search needs) (λ c κs. omega arith) (search needs)
     (λ c _. c.before.labels-of.ensures.small) (λ c. omega arith)
     -- loop-again

@@ -9,8 +9,8 @@ invariant-loop source s from end top seen₀ at₀ r₀ seen at r = (length seen
     ((y : Listed (LabelAt s) s from end top) (first : List Label) → Marks seen₀ (labels_of source y.scope first) → OwnPart source r₀ y first seen
     at r)
 
-pub doubled-in-spec : {M : Type 1} → Rattle.compiler.proofs.labels.doubled_in.Statement.statement M
-doubled-in-spec = tie.close (tie.spec invariant-loop (λ source s from end top seen₀ at₀ r₀ seen at r. end - at) (λ c. (refl, λ y first m. search own-begin))
+pub doubled_in_spec : {M : Type 1} → Rattle.compiler.proofs.labels.doubled_in.Statement.statement M
+doubled_in_spec = tie.close (tie.spec invariant-loop (λ source s from end top seen₀ at₀ r₀ seen at r. end - at) (λ c. (refl, λ y first m. search own-begin))
     (search needs) (λ c κs. omega arith) (λ c. omega arith)
     -- loop-again
     (λ c. let after-next-item = c.before.before.before.before in let after-loop-test = after-next-item.before in

@@ -7,8 +7,8 @@ use Rattle.compiler.proofs.labels.has_default.Tie as tie
 abbrev invariant-loop : tie.invariant-loop
 invariant-loop s from end at₀ at = (ls : List Label) → Row (LabelAt s) s end from ls → AmongPart s end at ls
 
-pub has-default-spec : {M : Type 1} → Rattle.compiler.proofs.labels.has_default.Statement.statement M
-has-default-spec = tie.close (tie.spec invariant-loop (λ s from end at₀ at. end - at) (λ c. λ ls r. search among-begin) (search needs) (search needs)
+pub has_default_spec : {M : Type 1} → Rattle.compiler.proofs.labels.has_default.Statement.statement M
+has_default_spec = tie.close (tie.spec invariant-loop (λ s from end at₀ at. end - at) (λ c. λ ls r. search among-begin) (search needs) (search needs)
     -- returns
     (λ c. record {
       by = λ ls r. among-found _ c.before.before.before.before.before.before.args.end

@@ -6,8 +6,8 @@ use Rattle.compiler.proofs.labels.misplaced.Tie as tie
 abbrev invariant-loop : tie.invariant-loop
 invariant-loop source s from end top at₀ r₀ at r = (y : ReadyMisplaced s from end top) → MisplacedPart source r₀ y at r
 
-pub misplaced-spec : {M : Type 1} → Rattle.compiler.proofs.labels.misplaced.Statement.statement M
-misplaced-spec = tie.close (tie.spec invariant-loop (λ source s from end top at₀ r₀ at r. end - at) (λ c. λ y. search misplaced-begin) (search needs)
+pub misplaced_spec : {M : Type 1} → Rattle.compiler.proofs.labels.misplaced.Statement.statement M
+misplaced_spec = tie.close (tie.spec invariant-loop (λ source s from end top at₀ r₀ at r. end - at) (λ c. λ y. search misplaced-begin) (search needs)
     (λ c κs. omega arith) (λ c. omega arith)
     -- loop-again
     (λ c. λ y. misplaced-next _ c.before.before.before.before.before.before.args.st c.before.before.loop-test.true

@@ -7,8 +7,8 @@ abbrev invariant-loop : tie.invariant-loop
 invariant-loop source s from end top text₀ k at₀ r₀ text at r = (length text ≡ length text₀) × Still r₀ r ×
     ((y : Listed (LabelAt s) s from end top) → Sound source y.scope y.all → PairsPart source k text₀ r₀ y text at r)
 
-pub pairs-spec : {M : Type 1} → Rattle.compiler.proofs.labels.pairs.Statement.statement M
-pairs-spec =
+pub pairs_spec : {M : Type 1} → Rattle.compiler.proofs.labels.pairs.Statement.statement M
+pairs_spec =
     tie.close (tie.spec invariant-loop (λ source s from end top text₀ k at₀ r₀ text at r. end - at) (λ c. (refl, still-here, λ y so. search pairs-begin))
     (search needs) (λ c κs. omega arith) (λ c. omega arith)
     -- loop-again

@@ -2,8 +2,8 @@ use Rattle.laws.proofs.Basics.{arith}
 use Rattle.compiler.proofs.Flags.{last-of-eight}
 use Rattle.compiler.proofs.labels.power.Tie as tie
 
-pub power-spec : {M : Type 1} → Rattle.compiler.proofs.labels.power.Statement.statement M
-power-spec = tie.close (tie.spec (λ c. (rw c.match.keys1, omega arith, omega arith)) (λ c. (rw c.match.keys2, omega arith, omega arith))
+pub power_spec : {M : Type 1} → Rattle.compiler.proofs.labels.power.Statement.statement M
+power_spec = tie.close (tie.spec (λ c. (rw c.match.keys1, omega arith, omega arith)) (λ c. (rw c.match.keys2, omega arith, omega arith))
     (λ c. (rw c.match.keys3, omega arith, omega arith)) (λ c. (rw c.match.keys4, omega arith, omega arith))
     (λ c. (rw c.match.keys5, omega arith, omega arith)) (λ c. (rw c.match.keys6, omega arith, omega arith))
     (λ c. (rw c.match.keys7, omega arith, omega arith))

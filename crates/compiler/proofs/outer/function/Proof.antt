@@ -7,8 +7,8 @@ room : (c : tie.After-node-at) → let start = c.before.before.before.before.bef
     × (start.requires.base < 2 ^ 32)
 room c = function-room _ c.Node-at.ensures c.before.before.before.before.before.requires
 
-pub function-spec : {M : Type 1} → Rattle.compiler.proofs.outer.function.Statement.statement M
-function-spec = tie.close (tie.spec (search needs) (search needs) (search needs) (search needs) (λ c κs. ((room (search)).0, omega arith, omega arith))
+pub function_spec : {M : Type 1} → Rattle.compiler.proofs.outer.function.Statement.statement M
+function_spec = tie.close (tie.spec (search needs) (search needs) (search needs) (search needs) (λ c κs. ((room (search)).0, omega arith, omega arith))
     (λ c. omega (arith, room (search))) (λ c κs. search function-names) (search needs) (search needs) (λ c. omega (arith, room (search)))
     (λ c. omega (arith, room (search))) (λ c. omega (arith, room (search))) (λ c. omega (arith, room (search)))
     -- body-requires

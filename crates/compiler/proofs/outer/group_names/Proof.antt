@@ -16,8 +16,8 @@ fit : (c : tie.In-loop invariant-loop decreases-loop) → let start = c.before.b
 fit c = let start = c.before.before.before.before.before in
     names-fit start.args.source.now start.args.st c.loop-test.true start.requires (c.before.loop.invariant.2 start.requires)
 
-pub group-names-spec : {M : Type 1} → Rattle.compiler.proofs.outer.group_names.Statement.statement M
-group-names-spec =
+pub group_names_spec : {M : Type 1} → Rattle.compiler.proofs.outer.group_names.Statement.statement M
+group_names_spec =
     tie.close (tie.spec invariant-loop decreases-loop (λ c. (refl, refl, λ y. search names-begin)) (λ c. omega arith) (search needs) (λ c. omega arith)
     (λ c. omega arith) (λ c κs. omega (arith, fit (search))) (λ c. omega arith) (search needs) (λ c κs. search (needs, names-fit)) (λ c. omega arith)
     (λ c κs. let w = fit (search) in (omega arith, omega arith, w.few, w.name)) (λ c. omega (arith, fit (search))) (λ c. omega arith)

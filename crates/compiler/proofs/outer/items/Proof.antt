@@ -21,8 +21,8 @@ out : (c : tie.At-loop invariant-loop decreases-loop) → let start = c.before.b
 out c = let start = c.before.before.before in
     items-out start.args.global start.args.source.now start.args.st c.loop.k start.requires (c.loop.invariant.1 start.requires)
 
-pub items-spec : {M : Type 1} → Rattle.compiler.proofs.outer.items.Statement.statement M
-items-spec = tie.close (tie.spec invariant-loop decreases-loop (λ c. (refl, λ y. search items-begin)) (λ c. omega arith) (search needs) (λ c. omega arith)
+pub items_spec : {M : Type 1} → Rattle.compiler.proofs.outer.items.Statement.statement M
+items_spec = tie.close (tie.spec invariant-loop decreases-loop (λ c. (refl, λ y. search items-begin)) (λ c. omega arith) (search needs) (λ c. omega arith)
     (λ c. omega (arith, fit (search))) (λ c. omega (arith, fit (search))) (λ c κs. omega (arith, fit (search))) (λ c. omega (arith, fit (search)))
     (λ c. omega (arith, fit (search))) (λ c. omega arith) (λ c κs. omega (arith, fit (search))) (λ c. omega arith) (search needs) (search needs)
     (λ c _. c.before.entry2.ensures.1) (λ c. omega (arith, fit (search))) (λ c. omega (arith, fit (search))) (λ c. omega (arith, fit (search)))

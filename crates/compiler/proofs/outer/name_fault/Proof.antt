@@ -2,7 +2,7 @@ use Rattle.compiler.proofs.GroupLaws.{fault-unknown, fault-free, fault-so}
 use Rattle.laws.proofs.Basics.{◌∙◌, needs}
 use Rattle.compiler.proofs.outer.name_fault.Tie as tie
 
-pub name-fault-spec : {M : Type 1} → Rattle.compiler.proofs.outer.name_fault.Statement.statement M
-name-fault-spec = tie.close (tie.spec (λ c. search fault-unknown) (search needs) (λ c. search fault-free) (search needs)
+pub name_fault_spec : {M : Type 1} → Rattle.compiler.proofs.outer.name_fault.Statement.statement M
+name_fault_spec = tie.close (tie.spec (λ c. search fault-unknown) (search needs) (λ c. search fault-free) (search needs)
     (λ c. fault-so c.before.before.before.before.if1.false (λ a b. c.before.if3.false (c.before.before.entry.ensures.0 ∙ b))
     c.wrong.ensures) (search needs) (λ c. fault-so c.before.before.if1.false (λ a b. c.before.if2.false a) c.wrong2.ensures))

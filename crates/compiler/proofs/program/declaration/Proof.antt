@@ -3,6 +3,6 @@ use Rattle.laws.proofs.Basics.{needs}
 use Rattle.compiler.proofs.Levels.{ready-items, gave-items, ready-let, gave-let}
 use Rattle.compiler.proofs.program.declaration.Tie as tie
 
-pub declaration-spec : {M : Type 1} → Rattle.compiler.proofs.program.declaration.Statement.statement M
-declaration-spec = tie.close (tie.spec (λ c κs. search ready-let) (search needs) (search needs) (search needs) (λ c. search gave-let)
+pub declaration_spec : {M : Type 1} → Rattle.compiler.proofs.program.declaration.Statement.statement M
+declaration_spec = tie.close (tie.spec (λ c κs. search ready-let) (search needs) (search needs) (search needs) (λ c. search gave-let)
     (λ c κs. (search ready-items, search needs)) (search needs) (λ c. search gave-items))

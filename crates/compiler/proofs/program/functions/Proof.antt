@@ -3,8 +3,8 @@ use Rattle.laws.proofs.Basics.{arith, needs}
 use Rattle.compiler.proofs.Levels.{ready-group, ready-fs, gave-group}
 use Rattle.compiler.proofs.program.functions.Tie as tie
 
-pub functions-spec : {M : Type 1} → Rattle.compiler.proofs.program.functions.Statement.statement M
-functions-spec =
+pub functions_spec : {M : Type 1} → Rattle.compiler.proofs.program.functions.Statement.statement M
+functions_spec =
     tie.close (tie.spec (search needs) (λ c κs. search ready-group) (search needs) (search needs) (λ c κs. (search ready-fs, omega arith))
     (λ c. let counted : tie.After-group-count = search in let start : tie.Start = search in omega arith) (search needs) (search needs) (search needs)
     -- returns

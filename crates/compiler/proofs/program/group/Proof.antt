@@ -10,8 +10,8 @@ invariant-loop source s₀ from end text₀ here label at₀ l₀ r₀ tall₀ s
     × ((y : ReadyFs s₀ from end here (record { tall = tall₀; state = r₀ })) (before : Scope) (k : ℕ)
     → GroupPart source text₀ label (record { tall = tall₀; state = r₀ }) y before k s text at l (record { tall = tall; state = r }))
 
-pub group-spec : {M : Type 1} → Rattle.compiler.proofs.program.group.Statement.statement M
-group-spec = tie.close (tie.spec invariant-loop (λ source s₀ from end text₀ here label at₀ l₀ r₀ tall₀ s text at l r tall. end - at)
+pub group_spec : {M : Type 1} → Rattle.compiler.proofs.program.group.Statement.statement M
+group_spec = tie.close (tie.spec invariant-loop (λ source s₀ from end text₀ here label at₀ l₀ r₀ tall₀ s text at l r tall. end - at)
     (λ c. (refl, refl, λ y before k. search group-begin)) (λ c. omega arith) (search needs) (λ c. omega arith)
     -- function-requires
     (λ c κs. let after-loop-test = c.before.before.before.before in let after-loop = after-loop-test.before in

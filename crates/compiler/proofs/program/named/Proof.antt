@@ -3,8 +3,8 @@ use Rattle.laws.proofs.Basics.{refl, needs}
 use Rattle.compiler.proofs.Levels.{items-flat}
 use Rattle.compiler.proofs.program.named.Tie as tie
 
-pub named-spec : {M : Type 1} → Rattle.compiler.proofs.program.named.Statement.statement M
-named-spec = tie.close (tie.spec (λ c κs. search needs) (λ c κs. search needs) (λ c. search needs)
+pub named_spec : {M : Type 1} → Rattle.compiler.proofs.program.named.Statement.statement M
+named_spec = tie.close (tie.spec (λ c κs. search needs) (λ c κs. search needs) (λ c. search needs)
     -- returns
     (λ c. record {
       known = items-flat c.before.before.before.before.before.before.before.requires.1 c.level.ensures

@@ -9,8 +9,8 @@ invariant-loop source s₀ table₀ base end left strings text₀ at₀ l₀ s t
     (length s ≡ length s₀) × (length table ≡ length table₀) × (length text ≡ length text₀)
     × ((y : ReadyProgram s₀ table₀ base end left strings l₀.done) → ProgramPart source text₀ l₀.done y s table text at l)
 
-pub program-spec : {M : Type 1} → Rattle.compiler.proofs.program.program.Statement.statement M
-program-spec = tie.close (tie.spec invariant-loop (λ source s₀ table₀ base end left strings text₀ at₀ l₀ s table text at l. end - at)
+pub program_spec : {M : Type 1} → Rattle.compiler.proofs.program.program.Statement.statement M
+program_spec = tie.close (tie.spec invariant-loop (λ source s₀ table₀ base end left strings text₀ at₀ l₀ s table text at l. end - at)
     (λ c. (refl, refl, refl, λ y. search program-begin)) (λ c. omega arith) (search needs) (λ c. omega arith) (λ c. omega arith) (search needs)
     (λ c. omega arith)
     -- declaration-requires

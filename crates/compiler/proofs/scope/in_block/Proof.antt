@@ -8,9 +8,9 @@ abbrev invariant-loop : tie.invariant-loop
 invariant-loop source s top leaf width place last at₀ at =
     (at ≤ top) × ((sc : Scope) → Shows s top sc → Left (λ (k : Scope). in_block source k (name_at s leaf)) s at sc)
 
-pub in-block-spec : {M : Type 1} → Rattle.compiler.proofs.scope.in_block.Statement.statement M
+pub in_block_spec : {M : Type 1} → Rattle.compiler.proofs.scope.in_block.Statement.statement M
 unfolding found
-in-block-spec = tie.close (tie.spec invariant-loop (λ source s top leaf width place last at₀ at. at)
+in_block_spec = tie.close (tie.spec invariant-loop (λ source s top leaf width place last at₀ at. at)
     (λ c. record { by = λ sc h. absurd (omega (arith, c.if1.true, shows_low h)) }) (search needs) (search needs) (search needs) (search needs)
     (λ c _. (c.entry2.ensures.1, c.before.entry.ensures.1)) (λ c. (omega arith, λ sc h. left-all _ sc h)) (λ c. omega arith)
     (λ c κs. omega arith)

@@ -15,9 +15,9 @@ invariant-search source s top leaf width place last at₀ at =
 abbrev decreases-search : tie.decreases-search
 decreases-search source s top leaf width place last at₀ at = at
 
-pub lookup-spec : {M : Type 1} → Rattle.compiler.proofs.scope.lookup.Statement.statement M
+pub lookup_spec : {M : Type 1} → Rattle.compiler.proofs.scope.lookup.Statement.statement M
 unfolding found
-lookup-spec = tie.close (tie.spec invariant-loop (λ source s top leaf width place last at₀ at. at) invariant-search decreases-search
+lookup_spec = tie.close (tie.spec invariant-loop (λ source s top leaf width place last at₀ at. at) invariant-search decreases-search
     (λ c. (record { by = λ sc h. absurd (omega (arith, c.if1.true, shows_low h)) }, omega arith)) (search needs) (search needs) (search needs)
     (search needs) (λ c _. (c.entry2.ensures.1, c.before.entry.ensures.1)) (λ c. (omega arith, λ sc h. left-all _ sc h))
     (λ c. (omega arith, c.search.invariant.0, c.search.invariant.1))

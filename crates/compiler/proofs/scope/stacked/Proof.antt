@@ -1,6 +1,6 @@
 use Rattle.laws.proofs.Basics.{refl, arith, needs}
 use Rattle.compiler.proofs.scope.stacked.Tie as tie
 
-pub stacked-spec : {M : Type 1} → Rattle.compiler.proofs.scope.stacked.Statement.statement M
-stacked-spec = tie.close (tie.spec (search needs) (search needs) (λ c. omega (arith, c.shared-slice-known.given c.before.args.i))
+pub stacked_spec : {M : Type 1} → Rattle.compiler.proofs.scope.stacked.Statement.statement M
+stacked_spec = tie.close (tie.spec (search needs) (search needs) (λ c. omega (arith, c.shared-slice-known.given c.before.args.i))
     (λ c. (refl, omega (arith, c.shared-slice-known.given c.before.args.i))))

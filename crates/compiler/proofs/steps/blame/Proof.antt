@@ -2,5 +2,5 @@ use Rattle.compiler.proofs.Judging.{blame-none, blame-some}
 use Rattle.laws.proofs.Basics.{needs}
 use Rattle.compiler.proofs.steps.blame.Tie as tie
 
-pub blame-spec : {M : Type 1} → Rattle.compiler.proofs.steps.blame.Statement.statement M
-blame-spec = tie.close (tie.spec (λ c. search blame-none) (search needs) (λ c. search blame-some))
+pub blame_spec : {M : Type 1} → Rattle.compiler.proofs.steps.blame.Statement.statement M
+blame_spec = tie.close (tie.spec (λ c. search blame-none) (search needs) (λ c. search blame-some))

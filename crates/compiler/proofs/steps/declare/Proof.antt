@@ -19,8 +19,8 @@ fit : (c : tie.In-loop invariant-loop decreases-loop) → let start = c.before.b
 fit c = let start = c.before.before.before.before in
     names-fit start.args.source.now c.before.loop.k c.loop-test.true start.requires (c.before.loop.invariant.1 start.requires)
 
-pub declare-spec : {M : Type 1} → Rattle.compiler.proofs.steps.declare.Statement.statement M
-declare-spec =
+pub declare_spec : {M : Type 1} → Rattle.compiler.proofs.steps.declare.Statement.statement M
+declare_spec =
     tie.close (tie.spec invariant-loop decreases-loop (λ c. (refl, λ y. search names-begin)) (λ c. omega (arith, fit (search))) (λ c. omega (arith, fit (search)))
     (λ c κs. search (needs, names-fit)) (λ c. omega arith) (search needs) (λ c _. c.entry.ensures.1) (λ c. omega (arith, fit (search)))
     (λ c. omega (arith, fit (search))) (λ c. omega (arith, fit (search))) (λ c. omega (arith, fit (search))) (λ c. omega (arith, fit (search)))

@@ -2,8 +2,8 @@ use Rattle.laws.proofs.Basics.{◌∙◌, arith, needs}
 use Rattle.compiler.proofs.Done.{emits_then}
 use Rattle.compiler.proofs.steps.for_step.Tie as tie
 
-pub for-step-spec : {M : Type 1} → Rattle.compiler.proofs.steps.for_step.Statement.statement M
-for-step-spec = tie.close (tie.spec (search needs) (search needs) (search needs) (search needs) (search needs) (search needs)
+pub for_step_spec : {M : Type 1} → Rattle.compiler.proofs.steps.for_step.Statement.statement M
+for_step_spec = tie.close (tie.spec (search needs) (search needs) (search needs) (search needs) (search needs) (search needs)
     (λ c. let put : tie.After-put = search in let start : tie.Start = search in omega arith) (search needs)
     -- same-length
     (λ c. let after-put-to = c.before.before.before.before.before.before in let after-put3 = after-put-to.before.before.before.before in

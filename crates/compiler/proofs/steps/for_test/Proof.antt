@@ -3,8 +3,8 @@ use Rattle.compiler.proofs.Done.{emits_then}
 use Rattle.compiler.proofs.Fors.{act-is}
 use Rattle.compiler.proofs.steps.for_test.Tie as tie
 
-pub for-test-spec : {M : Type 1} → Rattle.compiler.proofs.steps.for_test.Statement.statement M
-for-test-spec = tie.close (tie.spec (search needs) (search needs) (search needs) (search needs) (search needs) (search needs)
+pub for_test_spec : {M : Type 1} → Rattle.compiler.proofs.steps.for_test.Statement.statement M
+for_test_spec = tie.close (tie.spec (search needs) (search needs) (search needs) (search needs) (search needs) (search needs)
     (λ c. let start : tie.Start = search in omega arith) (search needs)
     -- same-length
     (λ c. let after-put3 = c.before.before.before.before.before.before in let after-put2 = after-put3.before.before.before.before.before in

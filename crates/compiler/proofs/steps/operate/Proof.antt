@@ -2,8 +2,8 @@ use Rattle.compiler.proofs.Done.{emits_then}
 use Rattle.laws.proofs.Basics.{needs}
 use Rattle.compiler.proofs.steps.operate.Tie as tie
 
-pub operate-spec : {M : Type 1} → Rattle.compiler.proofs.steps.operate.Statement.statement M
-operate-spec = tie.close (tie.spec (search needs) (search needs) (search needs) (search needs) (search needs) (search needs) (search needs)
+pub operate_spec : {M : Type 1} → Rattle.compiler.proofs.steps.operate.Statement.statement M
+operate_spec = tie.close (tie.spec (search needs) (search needs) (search needs) (search needs) (search needs) (search needs) (search needs)
     -- returns
     (λ c. emits_then c.before.before.before.before.before.before.before.before.before.before.before.before.before.before.put.ensures
     (emits_then c.before.before.before.before.before.before.before.before.before.before.put2.ensures

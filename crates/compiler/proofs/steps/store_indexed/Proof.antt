@@ -2,6 +2,6 @@ use Rattle.compiler.proofs.Done.{emits_then}
 use Rattle.laws.proofs.Basics.{needs}
 use Rattle.compiler.proofs.steps.store_indexed.Tie as tie
 
-pub store-indexed-spec : {M : Type 1} → Rattle.compiler.proofs.steps.store_indexed.Statement.statement M
-store-indexed-spec = tie.close (tie.spec (search needs) (search needs) (search needs) (search needs)
+pub store_indexed_spec : {M : Type 1} → Rattle.compiler.proofs.steps.store_indexed.Statement.statement M
+store_indexed_spec = tie.close (tie.spec (search needs) (search needs) (search needs) (search needs)
     (λ c. emits_then c.before.before.before.before.before.before.put.ensures c.before.before.store-through.ensures))

@@ -7,7 +7,7 @@ use Rattle.compiler.proofs.steps.tops.Tie as tie
 abbrev invariant-loop : tie.invariant-loop
 invariant-loop text₀ first k i₀ r₀ text i r = (length text ≡ length text₀) × (i ≤ k) × Emits (tops_code first i) [] text₀ text r₀ r
 
-pub tops-spec : {M : Type 1} → Rattle.compiler.proofs.steps.tops.Statement.statement M
-tops-spec =
+pub tops_spec : {M : Type 1} → Rattle.compiler.proofs.steps.tops.Statement.statement M
+tops_spec =
     tie.close (tie.spec invariant-loop (λ text₀ first k i₀ r₀ text i r. k - i) (λ c. (refl, omega arith, tops-none _)) (λ c. omega arith) (λ c. omega arith)
     (search needs) (λ c. omega arith) (λ c. omega arith) (λ c. search (needs, tops_next)) (λ c. c.before.loop.invariant.0) (λ c. search tops-all))

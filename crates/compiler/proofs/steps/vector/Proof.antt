@@ -2,8 +2,8 @@ use Rattle.laws.proofs.Basics.{refl, arith, needs}
 use Rattle.compiler.proofs.Judging.{vector-names, vector-gave}
 use Rattle.compiler.proofs.steps.vector.Tie as tie
 
-pub vector-spec : {M : Type 1} → Rattle.compiler.proofs.steps.vector.Statement.statement M
-vector-spec = tie.close (tie.spec (search needs) (search needs) (λ c _. c.judge-most.ensures.fits) (search needs) (λ c κs. search vector-names)
+pub vector_spec : {M : Type 1} → Rattle.compiler.proofs.steps.vector.Statement.statement M
+vector_spec = tie.close (tie.spec (search needs) (search needs) (λ c _. c.judge-most.ensures.fits) (search needs) (λ c κs. search vector-names)
     (λ c κs. let y : tie.Start = search in (omega arith, omega arith))
     (λ c. let j : tie.After-judge-most = search in let y : tie.Start = search in omega arith)
     (λ c. let j : tie.After-judge-most = search in let y : tie.Start = search in omega arith)

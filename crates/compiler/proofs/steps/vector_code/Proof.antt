@@ -2,7 +2,7 @@ use Rattle.compiler.proofs.Done.{emits_then}
 use Rattle.laws.proofs.Basics.{needs}
 use Rattle.compiler.proofs.steps.vector_code.Tie as tie
 
-pub vector-code-spec : {M : Type 1} → Rattle.compiler.proofs.steps.vector_code.Statement.statement M
-vector-code-spec = tie.close (tie.spec (search needs) (search needs) (search needs) (search needs) (search needs) (search needs) (search needs)
+pub vector_code_spec : {M : Type 1} → Rattle.compiler.proofs.steps.vector_code.Statement.statement M
+vector_code_spec = tie.close (tie.spec (search needs) (search needs) (search needs) (search needs) (search needs) (search needs) (search needs)
     (λ c. emits_then c.before.before.before.before.before.before.before.put.ensures (emits_then c.before.before.before.put2.ensures
     (c.reached.ensures.by _))))

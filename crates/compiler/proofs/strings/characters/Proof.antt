@@ -7,8 +7,8 @@ use Rattle.compiler.proofs.strings.characters.Tie as tie
 abbrev invariant-loop : tie.invariant-loop
 invariant-loop source from text₀ at i₀ x₀ text i x = (length text ≡ length text₀) × Spelling source from i at x text₀ text
 
-pub characters-spec : {M : Type 1} → Rattle.compiler.proofs.strings.characters.Statement.statement M
-characters-spec = tie.close (tie.spec invariant-loop (λ source from text₀ at i₀ x₀ text i x. length source - i) (λ _. (refl, spelling-begin)) (search needs)
+pub characters_spec : {M : Type 1} → Rattle.compiler.proofs.strings.characters.Statement.statement M
+characters_spec = tie.close (tie.spec invariant-loop (λ source from text₀ at i₀ x₀ text i x. length source - i) (λ _. (refl, spelling-begin)) (search needs)
     (search needs) (search needs)
     -- add-i
     (λ c. let source = c.before.before.before.before.before.before.before.before.before.before.before.args.source.now in

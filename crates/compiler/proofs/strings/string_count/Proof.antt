@@ -5,7 +5,7 @@ use Rattle.compiler.proofs.strings.string_count.Tie as tie
 abbrev invariant-loop : tie.invariant-loop
 invariant-loop s count n₀ i₀ n i = Counted count s i n
 
-pub string-count-spec : {M : Type 1} → Rattle.compiler.proofs.strings.string_count.Statement.statement M
-string-count-spec = tie.close (tie.spec invariant-loop (λ s count n₀ i₀ n i. count - i) (λ c. counted-begin) (search needs) (search needs) (search needs)
+pub string_count_spec : {M : Type 1} → Rattle.compiler.proofs.strings.string_count.Statement.statement M
+string_count_spec = tie.close (tie.spec invariant-loop (λ s count n₀ i₀ n i. count - i) (λ c. counted-begin) (search needs) (search needs) (search needs)
     (λ c. omega (arith, one_if-small c.before.entry.result)) (λ c. omega arith) (λ c. omega arith) (λ c. search counted_next)
     (λ c. search counted-end))

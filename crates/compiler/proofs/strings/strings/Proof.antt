@@ -6,8 +6,8 @@ abbrev invariant-loop : tie.invariant-loop
 invariant-loop source s count text₀ at first x₀ number₀ i₀ text x number i =
     (length text ≡ length text₀) × (number ≤ first + i) × Listing source s count first i number at x text₀ text
 
-pub strings-spec : {M : Type 1} → Rattle.compiler.proofs.strings.strings.Statement.statement M
-strings-spec =
+pub strings_spec : {M : Type 1} → Rattle.compiler.proofs.strings.strings.Statement.statement M
+strings_spec =
     tie.close (tie.spec invariant-loop (λ source s count text₀ at first x₀ number₀ i₀ text x number i. count - i) (λ c. (refl, omega arith, listing-begin))
     (search needs) (search needs) (search needs) (search needs) (search needs) (search needs) (search needs)
     (λ c. let entry = c.before.before.before.before.before.before.entry in omega (arith, one_if-small entry.result)) (search needs)

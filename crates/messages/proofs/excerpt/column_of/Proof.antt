@@ -8,7 +8,7 @@ invariant-loop source place column₀ i₀ column i = (column + i ≤ length sou
 abbrev decreases-loop : tie.decreases-loop
 decreases-loop source place column₀ i₀ column i = i
 
-pub column-of-spec : {M : Type 1} → Rattle.messages.proofs.excerpt.column_of.Statement.statement M
-column-of-spec = tie.close
+pub column_of_spec : {M : Type 1} → Rattle.messages.proofs.excerpt.column_of.Statement.statement M
+column_of_spec = tie.close
     (tie.spec invariant-loop decreases-loop (search needs) (search needs) (search needs) (search needs) (search needs) (search needs) (search needs) (search needs)
     (search needs))

@@ -8,7 +8,7 @@ invariant-loop source from end i₀ i = Unit {0}
 abbrev decreases-loop : tie.decreases-loop
 decreases-loop source from end i₀ i = length source - i
 
-pub disguised-spec : {M : Type 1} → Rattle.messages.proofs.excerpt.disguised.Statement.statement M
-disguised-spec = tie.close
+pub disguised_spec : {M : Type 1} → Rattle.messages.proofs.excerpt.disguised.Statement.statement M
+disguised_spec = tie.close
     (tie.spec invariant-loop decreases-loop (search needs) (search needs) (search needs) (search needs) (search needs) (search needs) (search needs) (search needs)
     (search needs) (search needs))

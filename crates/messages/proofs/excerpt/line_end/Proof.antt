@@ -8,6 +8,6 @@ invariant-loop source place i₀ i = Unit {0}
 abbrev decreases-loop : tie.decreases-loop
 decreases-loop source place i₀ i = length source - i
 
-pub line-end-spec : {M : Type 1} → Rattle.messages.proofs.excerpt.line_end.Statement.statement M
-line-end-spec = tie.close
+pub line_end_spec : {M : Type 1} → Rattle.messages.proofs.excerpt.line_end.Statement.statement M
+line_end_spec = tie.close
     (tie.spec invariant-loop decreases-loop (search needs) (search needs) (search needs) (search needs) (search needs) (search needs) (search needs))

@@ -12,8 +12,8 @@ invariant-loop source from end under row₀ n₀ i₀ row n i = (n ≤ 96) × (l
 abbrev decreases-loop : tie.decreases-loop
 decreases-loop source from end under row₀ n₀ i₀ row n i = length source - i
 
-pub show-row-spec : {M : Type 1} → Rattle.messages.proofs.excerpt.show_row.Statement.statement M
-show-row-spec = tie.close
+pub show_row_spec : {M : Type 1} → Rattle.messages.proofs.excerpt.show_row.Statement.statement M
+show_row_spec = tie.close
     (tie.spec invariant-loop decreases-loop (search needs) (search needs) (search needs) (search needs) (search needs) (search needs) (search needs)
     (λ c. search needs) (search needs) (λ c. taken _ c.before.before.loop.row (omega (arith, c.before.before.loop.invariant))) (search needs)
     (search needs))

@@ -8,7 +8,7 @@ invariant-loop digits value₀ i₀ value i = i ≤ length digits
 abbrev decreases-loop : tie.decreases-loop
 decreases-loop digits value₀ i₀ value i = length digits - i
 
-pub budget-of-spec : {M : Type 1} → Rattle.messages.proofs.given.budget_of.Statement.statement M
-budget-of-spec = tie.close
+pub budget_of_spec : {M : Type 1} → Rattle.messages.proofs.given.budget_of.Statement.statement M
+budget_of_spec = tie.close
     (tie.spec invariant-loop decreases-loop (search needs) (search needs) (search needs) (search needs) (search needs) (search needs) (search needs) (search needs)
     (search needs) (search needs) (search needs) (search needs) (search needs) (search needs) (search needs))

@@ -18,8 +18,8 @@ loop-again : tie.Need-loop-preserved invariant-loop decreases-loop
 loop-again c = let by = c.before.before.before.before.before.before.before.if3.branch in
     (⊎_elim (λ w. omega arith) (λ w. omega arith) by, ⊎_elim (λ w. omega arith) (λ w. omega arith) by, omega arith, omega arith)
 
-pub carry-on-spec : {M : Type 1} → Rattle.messages.proofs.running.carry_on.Statement.statement M
-carry-on-spec = tie.close
+pub carry_on_spec : {M : Type 1} → Rattle.messages.proofs.running.carry_on.Statement.statement M
+carry_on_spec = tie.close
     (tie.spec invariant-loop decreases-loop (search needs) (search needs) (search needs) (search needs) (search needs) (search needs) (search needs) (search needs)
     (search needs) (search needs) (search needs) (search needs) (search needs) (search needs) (search needs) (search needs) (search needs)
     (search needs) (search needs) (search needs) (search needs) (search needs) (search needs) (search needs) (search needs) (search needs)

@@ -8,8 +8,8 @@ invariant-loop text from memory place₀ at₀ t10 place at = Unit {0}
 abbrev decreases-loop : tie.decreases-loop
 decreases-loop text from memory place₀ at₀ t10 place at = length text - place
 
-pub list-items-spec : {M : Type 1} → Rattle.minicode.proofs.listing.list_items.Statement.statement M
-list-items-spec = tie.close
+pub list_items_spec : {M : Type 1} → Rattle.minicode.proofs.listing.list_items.Statement.statement M
+list_items_spec = tie.close
     (tie.spec invariant-loop decreases-loop (search needs) (search needs) (search needs) (search needs) (search needs) (search needs) (search needs) (search needs)
     (search needs) (search needs) (search needs) (search needs) (search needs) (search needs) (search needs) (search needs) (search needs)
     (search needs))

@@ -21,7 +21,7 @@ returns-2 c = let matched = c.before.before.before.before in let called = matche
     let constant = when-closed _ called.quoted-at.ensures matched.constant.given.1 in
     rw c.wide.ensures.0 (a-character _ called.before.before.args.at constant c.before.before.if1.false c.before.value-at.ensures)
 
-pub character-at-spec : {M : Type 1} → Rattle.symbols.proofs.elements.character_at.Statement.statement M
-character-at-spec = tie.close
+pub character_at_spec : {M : Type 1} → Rattle.symbols.proofs.elements.character_at.Statement.statement M
+character_at_spec = tie.close
     (tie.spec (search needs) (search needs) returns (search needs) (search needs) add-t12 (search needs) (search needs) add-t13 returns-2
     (λ c. search (character-unclosed, when-unclosed)) (λ c. search (character-faulty, when-faulty)))

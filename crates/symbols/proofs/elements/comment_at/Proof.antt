@@ -9,8 +9,8 @@ invariant-loop text at i₀ i = Running comment-run text at i
 abbrev decreases-loop : tie.decreases-loop
 decreases-loop text at i₀ i = length text - i
 
-pub comment-at-spec : {M : Type 1} → Rattle.symbols.proofs.elements.comment_at.Statement.statement M
-comment-at-spec = tie.close (tie.spec invariant-loop decreases-loop (λ c. run-starts comment-run _ _) (search needs) (search needs)
+pub comment_at_spec : {M : Type 1} → Rattle.symbols.proofs.elements.comment_at.Statement.statement M
+comment_at_spec = tie.close (tie.spec invariant-loop decreases-loop (λ c. run-starts comment-run _ _) (search needs) (search needs)
     (λ c. a-comment _ (run-stops comment-run c.before.before.before.loop.invariant (search needs) (ap not (eq-eqb _ 10 c.if1.true))))
     (search needs) (search needs)
     (λ c. run-goes-on comment-run c.before.before.before.loop.invariant (search needs) (ap not (ne_eqb _ 10 c.if1.false)))

@@ -14,8 +14,8 @@ and-digit-requires c κs = let read = c.before.before in let loop = read.before.
     let digit = digit-from _ _ (held c.before.is_digit.ensures c.if1.false) in
     (loop.before.before.requires.1, loop.loop.invariant.small, digit, read.wide.ensures.1)
 
-pub digits-at-spec : {M : Type 1} → Rattle.symbols.proofs.elements.digits_at.Statement.statement M
-digits-at-spec = tie.close (tie.spec invariant-loop decreases-loop (λ c. digits-start _ _ _) (search needs) (search needs) (search needs) (search needs)
+pub digits_at_spec : {M : Type 1} → Rattle.symbols.proofs.elements.digits_at.Statement.statement M
+digits_at_spec = tie.close (tie.spec invariant-loop decreases-loop (λ c. digits-start _ _ _) (search needs) (search needs) (search needs) (search needs)
     (λ c. digits-stop c.before.before.before.before.before.loop.invariant (search needs) c.before.before.wide.ensures.0 (search failed))
     and-digit-requires (search needs) (search needs) (λ c. let read = c.before.before.before in let loop = read.before.before.before in
     digits_more loop.loop.invariant (search needs) read.wide.ensures.0 loop.before.before.requires.0 (search held) c.and-digit.ensures)

@@ -4,9 +4,9 @@ use Rattle.symbols.specs.Answers.{as_element}
 use Rattle.symbols.proofs.Heads.{of-class, no-class, past_first}
 use Rattle.symbols.proofs.elements.element_at.Tie as tie
 
-pub element-at-spec : {M : Type 1} → Rattle.symbols.proofs.elements.element_at.Statement.statement M
+pub element_at_spec : {M : Type 1} → Rattle.symbols.proofs.elements.element_at.Statement.statement M
 unfolding by_class as_element
-element-at-spec = tie.close
+element_at_spec = tie.close
     (tie.spec (search needs) (λ c κs. search needs) (λ c κs. search needs) (λ c κs. search needs) (search needs) (λ c κs. search needs) (search needs)
     (λ c κs. search needs) (search needs) (λ c κs. search needs) (λ c κs. search needs)
     (λ c. c.word_at.ensures ∙ ap as_element (of-class _ _ c.before.before.class_of.ensures 1 c.before.match.keys1))

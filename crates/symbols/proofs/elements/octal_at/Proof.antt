@@ -7,5 +7,5 @@ add-t5 : tie.Need-overflow-add-t5
 add-t5 c = let args = c.before.before.before.before.before.before.before.args in
     omega (arith, run-within (digits-run 8) (drop args.at args.text.now), length-drop args.at args.text.now)
 
-pub octal-at-spec : {M : Type 1} → Rattle.symbols.proofs.elements.octal_at.Statement.statement M
-octal-at-spec = tie.close (tie.spec (search needs) (λ c. search no-digits) add-t5 (λ c. search an-octal) (λ c. search no-octal))
+pub octal_at_spec : {M : Type 1} → Rattle.symbols.proofs.elements.octal_at.Statement.statement M
+octal_at_spec = tie.close (tie.spec (search needs) (λ c. search no-digits) add-t5 (λ c. search an-octal) (λ c. search no-octal))

@@ -16,6 +16,6 @@ add-t10 c = let args = c.before.before.before.before.before.args in
     let constant2 = c.before.constant2 in
     omega (arith, fault-inside args.text.now args.at 34 255 (when-faulty _ quoted-at.ensures constant2.given.1))
 
-pub string-at-spec : {M : Type 1} → Rattle.symbols.proofs.elements.string_at.Statement.statement M
-string-at-spec = tie.close (tie.spec (search needs) (search needs) add-t9 (search needs) (search needs) add-t10 (λ c. search (a-string, when-closed))
+pub string_at_spec : {M : Type 1} → Rattle.symbols.proofs.elements.string_at.Statement.statement M
+string_at_spec = tie.close (tie.spec (search needs) (search needs) add-t9 (search needs) (search needs) add-t10 (λ c. search (a-string, when-closed))
     (λ c. search (string-unclosed, when-unclosed)) (λ c. search (string-faulty, when-faulty)))

@@ -7,5 +7,5 @@ kind-of-requires : tie.Need-kind-of-requires
 kind-of-requires c κs = let start = c.before.before in let at = start.args.at in let text = start.args.text.now in
     (omega (arith, run-within word-run (drop at text), length-drop at text), start.requires.2)
 
-pub word-at-spec : {M : Type 1} → Rattle.symbols.proofs.elements.word_at.Statement.statement M
-word-at-spec = tie.close (tie.spec (λ c κs. search needs) kind-of-requires (λ c. search a_word))
+pub word_at_spec : {M : Type 1} → Rattle.symbols.proofs.elements.word_at.Statement.statement M
+word_at_spec = tie.close (tie.spec (λ c κs. search needs) kind-of-requires (λ c. search a_word))

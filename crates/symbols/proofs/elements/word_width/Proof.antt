@@ -9,7 +9,7 @@ invariant-loop classes text at i₀ i = Running word-run text at i
 abbrev decreases-loop : tie.decreases-loop
 decreases-loop classes text at i₀ i = length text - i
 
-pub word-width-spec : {M : Type 1} → Rattle.symbols.proofs.elements.word_width.Statement.statement M
-word-width-spec = tie.close (tie.spec invariant-loop decreases-loop (λ c. run-starts word-run _ _) (λ c. search needs) (λ c κs. search needs) (λ c. search needs)
+pub word_width_spec : {M : Type 1} → Rattle.symbols.proofs.elements.word_width.Statement.statement M
+word_width_spec = tie.close (tie.spec invariant-loop decreases-loop (λ c. run-starts word-run _ _) (λ c. search needs) (λ c κs. search needs) (λ c. search needs)
     (λ c. search (run-stops word-run, failed)) (λ c. search needs) (λ c. search needs) (λ c. search (run-goes-on word-run, held))
     (λ c. search needs) (λ c. search (run_ends word-run)))

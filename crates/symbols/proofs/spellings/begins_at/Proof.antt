@@ -40,8 +40,8 @@ returns-3 : tie.Need-returns-3 invariant-loop decreases-loop
 returns-3 c = let args = c.before.before.before.before.args in
     sym (c.before.loop.invariant.2 ∙ begins-whole (spelling_at args.row) _ c.before.loop.i (omega arith))
 
-pub begins-at-spec : {M : Type 1} → Rattle.symbols.proofs.spellings.begins_at.Statement.statement M
-begins-at-spec = tie.close
+pub begins_at_spec : {M : Type 1} → Rattle.symbols.proofs.spellings.begins_at.Statement.statement M
+begins_at_spec = tie.close
     (tie.spec invariant-loop decreases-loop (λ c κs. search needs) (λ c. (omega arith, omega arith, search begins-start)) (λ c. omega arith) returns
     (λ c. omega arith) (λ c. omega arith) (λ c κs. search needs) (λ c. omega arith)
     (λ c κs. (search needs, omega (arith, short_row _ c.before.before.before.before.before.before.before.requires.1), search needs)) returns-2

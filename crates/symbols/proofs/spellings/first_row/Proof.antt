@@ -5,9 +5,9 @@ use Rattle.symbols.specs.Spellings.{by_letter, spelled}
 use Rattle.symbols.proofs.Spelling.{skips, skips-none}
 use Rattle.symbols.proofs.spellings.first_row.Tie as tie
 
-pub first-row-spec : {M : Type 1} → Rattle.symbols.proofs.spellings.first_row.Statement.statement M
+pub first_row_spec : {M : Type 1} → Rattle.symbols.proofs.spellings.first_row.Statement.statement M
 unfolding begins sign_in sign spelled by_letter reserved signs
-first-row-spec = tie.close (tie.spec (λ c. skips 60 36 (λ _. refl) c.match.keys1) (λ c. skips 62 37 (λ _. refl) c.match.keys2)
+first_row_spec = tie.close (tie.spec (λ c. skips 60 36 (λ _. refl) c.match.keys1) (λ c. skips 62 37 (λ _. refl) c.match.keys2)
     (λ c. skips 58 40 (λ _. refl) c.match.keys3) (λ c. skips 36 41 (λ _. refl) c.match.keys4)
     (λ c. skips 43 43 (λ _. refl) c.match.keys5) (λ c. skips 45 44 (λ _. refl) c.match.keys6)
     (λ c. skips 42 45 (λ _. refl) c.match.keys7) (λ c. skips 47 46 (λ _. refl) c.match.keys8)

@@ -28,8 +28,8 @@ loop-again c = ⊎_elim (λ w. rw w.3 (search-goes-on _ _ _ c.before.before.befo
     c.before.before.before.before.loop.invariant c.before.before.if2.true
     c.before.before.before.before.before.rows_of_lem.ensures.words (λ e. w.0.left (c.before.entry.ensures ∙ e)))) c.if3.branch
 
-pub kind-of-spec : {M : Type 1} → Rattle.symbols.proofs.spellings.kind_of.Statement.statement M
-kind-of-spec = tie.close
+pub kind_of_spec : {M : Type 1} → Rattle.symbols.proofs.spellings.kind_of.Statement.statement M
+kind_of_spec = tie.close
     (tie.spec invariant-loop decreases-loop (λ c. no_bytes _ c.if1.true) (λ c. omega arith) (λ c κs. search needs) (λ c. search search-starts)
     (λ c κs. (omega arith, omega arith, search needs)) add-compared (λ c κs. (omega arith, omega arith, search needs))
     (λ c κs. (omega arith, omega arith, search needs)) returns-2 (λ c. omega arith) (λ c. omega arith) loop-again

@@ -5,9 +5,9 @@ use Rattle.symbols.specs.Spellings.{by_letter, of_length}
 use Rattle.symbols.proofs.Spelling.{spans, no_span}
 use Rattle.symbols.proofs.spellings.rows_of.Tie as tie
 
-pub rows-of-spec : {M : Type 1} → Rattle.symbols.proofs.spellings.rows_of.Statement.statement M
+pub rows_of_spec : {M : Type 1} → Rattle.symbols.proofs.spellings.rows_of.Statement.statement M
 unfolding reserved candidates_in candidates by_letter of_length
-rows-of-spec = tie.close (tie.spec (λ c. spans 65 0 1 tt (λ _. refl) c.match.keys1) (λ c. spans 66 1 4 tt (λ _. refl) c.match.keys2)
+rows_of_spec = tie.close (tie.spec (λ c. spans 65 0 1 tt (λ _. refl) c.match.keys1) (λ c. spans 66 1 4 tt (λ _. refl) c.match.keys2)
     (λ c. spans 67 4 5 tt (λ _. refl) c.match.keys3) (λ c. spans 68 5 7 tt (λ _. refl) c.match.keys4)
     (λ c. spans 69 7 8 tt (λ _. refl) c.match.keys5) (λ c. spans 70 8 11 tt (λ _. refl) c.match.keys6)
     (λ c. spans 71 11 12 tt (λ _. refl) c.match.keys7) (λ c. spans 73 12 14 tt (λ _. refl) c.match.keys8)

@@ -23,9 +23,9 @@ loop-again c = let loop = c.before.before.before.loop in
     let loop-test = c.before.before.loop-test in
     loop.invariant ∙ sign-next _ _ loop-test.true (sym c.before.begins-at.ensures ∙ c.if1.false)
 
-pub sign-at-spec : {M : Type 1} → Rattle.symbols.proofs.spellings.sign_at.Statement.statement M
+pub sign_at_spec : {M : Type 1} → Rattle.symbols.proofs.spellings.sign_at.Statement.statement M
 unfolding as_element
-sign-at-spec = tie.close
+sign_at_spec = tie.close
     (tie.spec invariant-loop decreases-loop (search needs) (search needs) (λ c. search sign-from) (λ c κs. (omega arith, omega arith, search needs))
     (λ c κs. (omega arith, omega arith, search needs)) (λ c κs. (omega arith, omega arith, search needs)) returns (λ c. omega arith)
     (λ c. omega arith) loop-again (λ c. ap as_element (sym (c.before.loop.invariant ∙ sign-end _ _ c.loop-test.false))))

@@ -2,9 +2,9 @@ use Rattle.language.specs.Kinds.{member}
 use Rattle.tree.proofs.Classes.{arm, none_of_lem, expression}
 use Rattle.tree.proofs.binding.begins_expression.Tie as tie
 
-pub begins-expression-spec : {M : Type 1} → Rattle.tree.proofs.binding.begins_expression.Statement.statement M
+pub begins_expression_spec : {M : Type 1} → Rattle.tree.proofs.binding.begins_expression.Statement.statement M
 unfolding member
-begins-expression-spec = tie.close (tie.spec (λ c κs. tt) (λ c. arm expression _ c.before.letter-of.ensures c.match.keys1)
+begins_expression_spec = tie.close (tie.spec (λ c κs. tt) (λ c. arm expression _ c.before.letter-of.ensures c.match.keys1)
     (λ c. arm expression _ c.before.letter-of.ensures c.match.keys2)
     (λ c. arm expression _ c.before.letter-of.ensures c.match.keys3)
     (λ c. arm expression _ c.before.letter-of.ensures c.match.keys4)

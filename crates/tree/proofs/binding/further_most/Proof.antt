@@ -6,6 +6,6 @@ returns-2 : tie.Need-returns-2
 unfolding further_most
 returns-2 c = rw (ne_eqb _ _ c.before.if1.false) c.minus.ensures
 
-pub further-most-spec : {M : Type 1} → Rattle.tree.proofs.binding.further_most.Statement.statement M
+pub further_most_spec : {M : Type 1} → Rattle.tree.proofs.binding.further_most.Statement.statement M
 unfolding further_most
-further-most-spec = tie.close (tie.spec (search needs) (λ c. rw (eq-eqb _ _ c.if1.true)) returns-2)
+further_most_spec = tie.close (tie.spec (search needs) (λ c. rw (eq-eqb _ _ c.if1.true)) returns-2)

@@ -2,7 +2,7 @@ use Rattle.language.specs.Kinds.{member}
 use Rattle.tree.proofs.Classes.{arm, none_of_lem, suffix}
 use Rattle.tree.proofs.binding.is_suffix.Tie as tie
 
-pub is-suffix-spec : {M : Type 1} → Rattle.tree.proofs.binding.is_suffix.Statement.statement M
+pub is_suffix_spec : {M : Type 1} → Rattle.tree.proofs.binding.is_suffix.Statement.statement M
 unfolding member
-is-suffix-spec = tie.close (tie.spec (λ c κs. tt) (λ c. arm suffix _ c.before.letter-of.ensures c.match.keys1)
+is_suffix_spec = tie.close (tie.spec (λ c κs. tt) (λ c. arm suffix _ c.before.letter-of.ensures c.match.keys1)
     (λ c. arm suffix _ c.before.letter-of.ensures c.match.keys2) (λ c. none_of_lem suffix _ c.before.letter-of.ensures c.match.rest))

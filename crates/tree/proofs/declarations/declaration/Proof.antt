@@ -11,8 +11,8 @@ returns-3 c = let after-functions = c.before.before in let after-match = after-f
     (λ src l h. (let u = unlike2 after-match.match.rest in declaration-functions src h u.0 u.1
     (after-functions.functions.ensures.1 src l)))
 
-pub declaration-spec : {M : Type 1} → Rattle.tree.proofs.declarations.declaration.Statement.statement M
-declaration-spec = tie.close (tie.spec (search needs) (search needs) (search needs) (search needs) (λ c. (
+pub declaration_spec : {M : Type 1} → Rattle.tree.proofs.declarations.declaration.Statement.statement M
+declaration_spec = tie.close (tie.spec (search needs) (search needs) (search needs) (search needs) (λ c. (
   leaves-less c.before.before.item-list.ensures.0 refl,
   λ src l h. declaration-globals src c.before.before.before.before.match.keys1 (c.before.before.item-list.ensures.1 src l),
 )) (search needs) (λ c. (

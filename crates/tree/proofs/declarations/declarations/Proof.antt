@@ -16,8 +16,8 @@ invariant-loop s₀ n turns₀ a₀ s turns a =
 abbrev decreases-loop : tie.decreases-loop
 decreases-loop s₀ n turns₀ a₀ s turns a = turns
 
-pub declarations-spec : {M : Type 1} → Rattle.tree.proofs.declarations.declarations.Statement.statement M
-declarations-spec = tie.close (tie.spec invariant-loop decreases-loop (λ c. so-begins c.before.requires before-first) (λ c κs. omega arith) (λ _ _. tt)
+pub declarations_spec : {M : Type 1} → Rattle.tree.proofs.declarations.declarations.Statement.statement M
+declarations_spec = tie.close (tie.spec invariant-loop decreases-loop (λ c. so-begins c.before.requires before-first) (λ c κs. omega arith) (λ _ _. tt)
     (λ c κs. pair (omega arith) (declaration-positive _ c.before.before.is-declaration.ensures c.before.if1.true)) (search needs)
     (λ c. omega arith)
     -- loop-again

@@ -6,8 +6,8 @@ use Rattle.tree.proofs.Steps.{pair}
 use Rattle.tree.proofs.declarations.declared.Tie as tie
 use Rattle.tree.proofs.Wholes.{leaves, ◌from◌, ◌with◌, ◌adding◌, ◌setting◌}
 
-pub declared-spec : {M : Type 1} → Rattle.tree.proofs.declarations.declared.Statement.statement M
-declared-spec = tie.close (tie.spec (search needs) (search needs) (search needs)
+pub declared_spec : {M : Type 1} → Rattle.tree.proofs.declarations.declared.Statement.statement M
+declared_spec = tie.close (tie.spec (search needs) (search needs) (search needs)
     -- declaration-requires
     (λ c κs. let begin-item = c.before.before.before in let expect = begin-item.before.before in
     let start = expect.before.before.before.before.before in

@@ -7,8 +7,8 @@ use Rattle.tree.proofs.Steps.{pair}
 use Rattle.tree.proofs.declarations.function.Tie as tie
 use Rattle.tree.proofs.Wholes.{leaves, ◌writing◌, ◌with◌, ◌setting◌}
 
-pub function-spec : {M : Type 1} → Rattle.tree.proofs.declarations.function.Statement.statement M
-function-spec = tie.close (tie.spec (λ c κs. search needs) (λ c κs. c.before.before.before.before.requires) (λ c κs. search needs)
+pub function_spec : {M : Type 1} → Rattle.tree.proofs.declarations.function.Statement.statement M
+function_spec = tie.close (tie.spec (λ c κs. search needs) (λ c κs. c.before.before.before.before.requires) (λ c κs. search needs)
     -- a-name-requires
     (λ c κs. ready-takes c.before.before.before.before.before.begin-item.ensures.0
     c.before.before.before.before.before.begin-item.auto.0

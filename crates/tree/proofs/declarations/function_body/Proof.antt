@@ -5,8 +5,8 @@ use Rattle.tree.proofs.Rooms.{ready-leaves}
 use Rattle.tree.proofs.declarations.function_body.Tie as tie
 use Rattle.tree.proofs.Wholes.{leaves, ◌from◌, ◌with◌, ◌adding◌}
 
-pub function-body-spec : {M : Type 1} → Rattle.tree.proofs.declarations.function_body.Statement.statement M
-function-body-spec = tie.close (tie.spec (search needs) (search needs) (search needs)
+pub function_body_spec : {M : Type 1} → Rattle.tree.proofs.declarations.function_body.Statement.statement M
+function_body_spec = tie.close (tie.spec (search needs) (search needs) (search needs)
     -- node-requires
     (λ c κs. let expr = c.before.before.before in let expect = expr.before.before in
     let start = expect.before.before.before.before.before.before in

@@ -11,5 +11,5 @@ returns c = let after-further-functions = c.before.before in let after-function 
     (λ src l. functions-read src l.count (after-function.function.ensures.1 src l)
     (after-further-functions.further-functions.ensures.1 src (lies-still l after-function.function.ensures.0.kept)))
 
-pub functions-spec : {M : Type 1} → Rattle.tree.proofs.declarations.functions.Statement.statement M
-functions-spec = tie.close (tie.spec (search needs) (search needs) (search needs) returns)
+pub functions_spec : {M : Type 1} → Rattle.tree.proofs.declarations.functions.Statement.statement M
+functions_spec = tie.close (tie.spec (search needs) (search needs) (search needs) returns)

@@ -17,8 +17,8 @@ invariant-loop s₀ n turns₀ a₀ s turns a = SoFar (Before encode_functions) 
 abbrev decreases-loop : tie.decreases-loop
 decreases-loop s₀ n turns₀ a₀ s turns a = turns
 
-pub further-functions-spec : {M : Type 1} → Rattle.tree.proofs.declarations.further_functions.Statement.statement M
-further-functions-spec = tie.close (tie.spec invariant-loop decreases-loop (λ c. so-begins c.before.requires before-first) (λ c κs. omega arith) (search needs)
+pub further_functions_spec : {M : Type 1} → Rattle.tree.proofs.declarations.further_functions.Statement.statement M
+further_functions_spec = tie.close (tie.spec invariant-loop decreases-loop (λ c. so-begins c.before.requires before-first) (λ c κs. omega arith) (search needs)
     (λ c. many-ends _ _ _ _ before_last (wordless no-function-words) refl c.before.before.before.before.loop.invariant
     c.before.kind-here.ensures (ne_eqb _ _ c.if1.true))
     (λ c κs. omega arith) (λ c κs. ready-leaves c.before.expect.ensures.0 refl refl (omega arith)) (search needs) (λ c. omega arith)

@@ -15,8 +15,8 @@ invariant-loop s₀ n sign turns₀ a₀ s turns a = SoFar (Before encode_items)
 abbrev decreases-loop : tie.decreases-loop
 decreases-loop s₀ n sign turns₀ a₀ s turns a = turns
 
-pub further-items-spec : {M : Type 1} → Rattle.tree.proofs.declarations.further_items.Statement.statement M
-further-items-spec =
+pub further_items_spec : {M : Type 1} → Rattle.tree.proofs.declarations.further_items.Statement.statement M
+further_items_spec =
     tie.close (tie.spec invariant-loop decreases-loop (λ c. so-begins c.before.requires.0 before-first) (λ c κs. omega arith) (λ c κs. omega arith) (search needs)
     -- returns
     (λ c. let if1 = c.before.before in let kind-here = if1.before in let in-loop = kind-here.before.before.before in

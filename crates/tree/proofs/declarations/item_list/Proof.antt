@@ -5,8 +5,8 @@ use Rattle.tree.proofs.Steps.{pair}
 use Rattle.tree.proofs.declarations.item_list.Tie as tie
 use Rattle.tree.proofs.Wholes.{leaves, ◌from◌, ◌with◌}
 
-pub item-list-spec : {M : Type 1} → Rattle.tree.proofs.declarations.item_list.Statement.statement M
-item-list-spec = tie.close (tie.spec (search needs)
+pub item_list_spec : {M : Type 1} → Rattle.tree.proofs.declarations.item_list.Statement.statement M
+item_list_spec = tie.close (tie.spec (search needs)
     (λ c κs. pair (ready-leaves c.before.expect.ensures.0 refl refl c.before.before.before.before.requires.0) (omega arith))
     -- further-items-requires
     (λ c κs. let one-item = c.before.before.before in let expect = one-item.before.before in let start = expect.before.before.before in

@@ -24,8 +24,8 @@ set-size-requires c κs = let after-constant = c.before.before.before in
     pair (ready-leaves after-constant.constant.ensures.0 after-constant.constant.auto.0 refl
     (constant-requires after-constant.before κs)) (item-low after-free-of.free_of.ensures (ready-part start.requires.0 refl))
 
-pub one-item-spec : {M : Type 1} → Rattle.tree.proofs.declarations.one_item.Statement.statement M
-one-item-spec = tie.close (tie.spec (search needs) (search needs) a-name-requires expect-requires constant-requires set-size-requires (search needs)
+pub one_item_spec : {M : Type 1} → Rattle.tree.proofs.declarations.one_item.Statement.statement M
+one_item_spec = tie.close (tie.spec (search needs) (search needs) a-name-requires expect-requires constant-requires set-size-requires (search needs)
     -- returns
     (λ c. let set-size = c.before.before in let constant = set-size.before.before.before.before in let expect = constant.before.before in
     let a-name = expect.before.before.before.before in let begin-item = a-name.before.before.before.before in

@@ -3,8 +3,8 @@ use Rattle.laws.proofs.Basics.{refl, needs}
 use Rattle.tree.proofs.declarations.parameters.Tie as tie
 use Rattle.tree.proofs.Wholes.{leaves, ◌from◌, ◌with◌}
 
-pub parameters-spec : {M : Type 1} → Rattle.tree.proofs.declarations.parameters.Statement.statement M
-parameters-spec = tie.close (tie.spec (search needs) (search needs) (search needs) (λ c. (
+pub parameters_spec : {M : Type 1} → Rattle.tree.proofs.declarations.parameters.Statement.statement M
+parameters_spec = tie.close (tie.spec (search needs) (search needs) (search needs) (λ c. (
   c.expect.ensures.0,
   λ src l. no-parameters src (c.before.before.before.kind-here.ensures src l) c.before.before.if1.true (c.expect.ensures.1 src l),
 )) (search needs) (search needs) (search needs) (search needs)

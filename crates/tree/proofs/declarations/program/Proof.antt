@@ -5,8 +5,8 @@ use Rattle.tree.proofs.Steps.{pair}
 use Rattle.tree.proofs.Rooms.{left, room-left, ◌plus◌}
 use Rattle.tree.proofs.declarations.program.Tie as tie
 
-pub program-spec : {M : Type 1} → Rattle.tree.proofs.declarations.program.Statement.statement M
-program-spec = tie.close (tie.spec (search needs) (search needs) (search needs)
+pub program_spec : {M : Type 1} → Rattle.tree.proofs.declarations.program.Statement.statement M
+program_spec = tie.close (tie.spec (search needs) (search needs) (search needs)
     -- returns
     (λ c. let kind-here = c.before in let declarations = kind-here.before.before.before.before in
     pair declarations.declarations.ensures.0

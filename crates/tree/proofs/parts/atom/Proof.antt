@@ -2,8 +2,8 @@ use Rattle.tree.proofs.Leaves.{number_read, string-read, name-read, true-read, f
 use Rattle.laws.proofs.Basics.{needs}
 use Rattle.tree.proofs.parts.atom.Tie as tie
 
-pub atom-spec : {M : Type 1} → Rattle.tree.proofs.parts.atom.Statement.statement M
-atom-spec =
+pub atom_spec : {M : Type 1} → Rattle.tree.proofs.parts.atom.Statement.statement M
+atom_spec =
     tie.close (tie.spec (search needs) (search needs) (search needs) (search needs) (search needs) (search needs) (search needs) (search needs)
     (λ c. number_read c.before.before.before.before.before.value-here.ensures c.before.before.before.before.match.keys1
     c.before.before.leaf.ensures) (search needs)

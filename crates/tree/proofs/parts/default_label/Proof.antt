@@ -6,8 +6,8 @@ use Rattle.tree.proofs.Steps.{pair}
 use Rattle.tree.proofs.parts.default_label.Tie as tie
 use Rattle.tree.proofs.Wholes.{leaves, ◌from◌, ◌with◌, ◌adding◌, ◌setting◌}
 
-pub default-label-spec : {M : Type 1} → Rattle.tree.proofs.parts.default_label.Statement.statement M
-default-label-spec = tie.close (tie.spec (search needs) (search needs) (search needs) (search needs) (search needs)
+pub default_label_spec : {M : Type 1} → Rattle.tree.proofs.parts.default_label.Statement.statement M
+default_label_spec = tie.close (tie.spec (search needs) (search needs) (search needs) (search needs) (search needs)
     -- expect-requires-2
     (λ c κs. let begin-item = c.before.before.before.before.before in let expect = begin-item.before.before in
     let start = expect.before.before.before.before.before.before.before in

@@ -15,8 +15,8 @@ invariant-loop s₀ n turns₀ a₀ s turns a =
 abbrev decreases-loop : tie.decreases-loop
 decreases-loop s₀ n turns₀ a₀ s turns a = turns
 
-pub further-names-spec : {M : Type 1} → Rattle.tree.proofs.parts.further_names.Statement.statement M
-further-names-spec = tie.close (tie.spec invariant-loop decreases-loop (λ c. so-begins c.before.requires before-first) (λ c κs. omega arith) (search needs)
+pub further_names_spec : {M : Type 1} → Rattle.tree.proofs.parts.further_names.Statement.statement M
+further_names_spec = tie.close (tie.spec invariant-loop decreases-loop (λ c. so-begins c.before.requires before-first) (λ c κs. omega arith) (search needs)
     (λ c. many-ends _ _ _ _ before_last (wordless no-name-words) refl c.before.before.before.before.loop.invariant c.before.kind-here.ensures
     (ne_eqb _ _ c.if1.true)) (λ c κs. omega arith) (λ c κs. omega arith) (search needs) (λ c. omega arith)
     -- loop-again

@@ -8,8 +8,8 @@ returns c = let after-case-label = c.before.before in let after-if1 = after-case
     pair after-case-label.case-label.ensures.0
     (λ src l k. after-case-label.case-label.ensures.1 src l (subst (λ (x : ℕ). KindHere src start.args.r x) after-if1.if1.true k))
 
-pub label-spec : {M : Type 1} → Rattle.tree.proofs.parts.label.Statement.statement M
-label-spec = tie.close (tie.spec (search needs) (search needs) (search needs) returns (search needs) (λ c. (
+pub label_spec : {M : Type 1} → Rattle.tree.proofs.parts.label.Statement.statement M
+label_spec = tie.close (tie.spec (search needs) (search needs) (search needs) returns (search needs) (λ c. (
   c.before.before.default-label.ensures.0,
   λ src l k. c.before.before.default-label.ensures.1 src l _ k c.before.before.before.before.if1.false,
 )))

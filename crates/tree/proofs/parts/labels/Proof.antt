@@ -17,8 +17,8 @@ invariant-loop s₀ n levels turns₀ a₀ s turns a =
 abbrev decreases-loop : tie.decreases-loop
 decreases-loop s₀ n levels turns₀ a₀ s turns a = turns
 
-pub labels-spec : {M : Type 1} → Rattle.tree.proofs.parts.labels.Statement.statement M
-labels-spec = tie.close (tie.spec invariant-loop decreases-loop (λ _ _. tt) (λ c. so-begins c.before.before.requires before-first) (λ c κs. omega arith) (λ _ _. tt)
+pub labels_spec : {M : Type 1} → Rattle.tree.proofs.parts.labels.Statement.statement M
+labels_spec = tie.close (tie.spec invariant-loop decreases-loop (λ _ _. tt) (λ c. so-begins c.before.before.requires before-first) (λ c κs. omega arith) (λ _ _. tt)
     (λ c κs. omega arith) (search needs) (λ c. omega arith)
     -- loop-again
     (λ c. let label = c.before.before in let if1 = label.before.before in let is-label = if1.before in let kind-here = is-label.before in

@@ -12,5 +12,5 @@ returns c =
     (λ src l. leaf-read l _ (after-place-here.place_here.ensures src l) start.requires.1 (after-expect.expect.ensures.1 src l)
     after-free-of.free_of.ensures after-node.node.ensures.1)
 
-pub leaf-spec : {M : Type 1} → Rattle.tree.proofs.parts.leaf.Statement.statement M
-leaf-spec = tie.close (tie.spec (search needs) (search needs) (search needs) (search needs) (search needs) returns)
+pub leaf_spec : {M : Type 1} → Rattle.tree.proofs.parts.leaf.Statement.statement M
+leaf_spec = tie.close (tie.spec (search needs) (search needs) (search needs) (search needs) (search needs) returns)

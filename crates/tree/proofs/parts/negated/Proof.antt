@@ -10,5 +10,5 @@ returns c =
     pair (room-left (left after-expect.expect.ensures.0 less after-node.node.ensures.0) refl)
     (λ src l. negated-read _ (after-expect.expect.ensures.1 src l) after-free-of.free_of.ensures after-node.node.ensures.1)
 
-pub negated-spec : {M : Type 1} → Rattle.tree.proofs.parts.negated.Statement.statement M
-negated-spec = tie.close (tie.spec (search needs) (search needs) (search needs) (search needs) returns)
+pub negated_spec : {M : Type 1} → Rattle.tree.proofs.parts.negated.Statement.statement M
+negated_spec = tie.close (tie.spec (search needs) (search needs) (search needs) (search needs) returns)

@@ -10,5 +10,5 @@ returns c = let after-node = c.before.before in let after-leaf = after-node.befo
     pair (room-taken (left after-leaf.leaf.ensures.0 less after-node.node.ensures.0) refl)
     (λ src l. negated-name-read _ after-free-of.free_of.ensures (after-leaf.leaf.ensures.1 src l) after-node.node.ensures.1)
 
-pub negated-name-spec : {M : Type 1} → Rattle.tree.proofs.parts.negated_name.Statement.statement M
-negated-name-spec = tie.close (tie.spec (search needs) (search needs) (search needs) (search needs) returns)
+pub negated_name_spec : {M : Type 1} → Rattle.tree.proofs.parts.negated_name.Statement.statement M
+negated_name_spec = tie.close (tie.spec (search needs) (search needs) (search needs) (search needs) returns)

@@ -2,8 +2,8 @@ use Rattle.tree.proofs.Constants.{negative-shut, negative-number, negative-true,
 use Rattle.laws.proofs.Basics.{needs}
 use Rattle.tree.proofs.parts.negative.Tie as tie
 
-pub negative-spec : {M : Type 1} → Rattle.tree.proofs.parts.negative.Statement.statement M
-negative-spec =
+pub negative_spec : {M : Type 1} → Rattle.tree.proofs.parts.negative.Statement.statement M
+negative_spec =
     tie.close (tie.spec (search needs) (search needs) (λ c. negative-shut _ c.before.before.if1.true c.refuse.ensures) (search needs)
     (search needs) (search needs) (search needs) (search needs) (search needs) (search needs) (search needs) (search needs)
     (λ c. let after-match = c.before.before.before.before in let after-kind-here = after-match.before.before.before in

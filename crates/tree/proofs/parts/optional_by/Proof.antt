@@ -12,6 +12,6 @@ returns c =
     (λ src l. by_read src _ (after-kind-here.kind-here.ensures src l) after-if1.if1.true (after-expect.expect.ensures.1 src l)
     (after-constant.constant.ensures.1 src l))
 
-pub optional-by-spec : {M : Type 1} → Rattle.tree.proofs.parts.optional_by.Statement.statement M
-optional-by-spec = tie.close (tie.spec (search needs) (search needs) (search needs) (search needs) returns (search needs)
+pub optional_by_spec : {M : Type 1} → Rattle.tree.proofs.parts.optional_by.Statement.statement M
+optional_by_spec = tie.close (tie.spec (search needs) (search needs) (search needs) (search needs) returns (search needs)
     (λ c. (leaves_all c.before.before.before.before.requires, λ src l. no-by src _ (c.before.kind-here.ensures src l) c.if1.false)))

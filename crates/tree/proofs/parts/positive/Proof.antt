@@ -2,8 +2,8 @@ use Rattle.tree.proofs.Leaves.{positive-number, positive-true, positive-false, p
 use Rattle.laws.proofs.Basics.{needs}
 use Rattle.tree.proofs.parts.positive.Tie as tie
 
-pub positive-spec : {M : Type 1} → Rattle.tree.proofs.parts.positive.Statement.statement M
-positive-spec = tie.close (tie.spec (search needs) (search needs) (search needs) (search needs) (search needs) (search needs)
+pub positive_spec : {M : Type 1} → Rattle.tree.proofs.parts.positive.Statement.statement M
+positive_spec = tie.close (tie.spec (search needs) (search needs) (search needs) (search needs) (search needs) (search needs)
     (λ c. positive-number c.before.before.before.before.before.value-here.ensures c.before.before.before.before.match.keys1
     c.before.before.leaf.ensures) (search needs)
     (λ c. positive-true c.before.before.before.before.before.value-here.ensures c.before.before.before.before.match.keys2

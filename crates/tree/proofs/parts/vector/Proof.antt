@@ -5,8 +5,8 @@ use Rattle.tree.proofs.Rooms.{measured, ready-leaves, size_small}
 use Rattle.tree.proofs.parts.vector.Tie as tie
 use Rattle.tree.proofs.Wholes.{leaves, ◌from◌, ◌with◌, ◌adding◌}
 
-pub vector-spec : {M : Type 1} → Rattle.tree.proofs.parts.vector.Statement.statement M
-vector-spec = tie.close (tie.spec (search needs) (search needs) (search needs) (search needs)
+pub vector_spec : {M : Type 1} → Rattle.tree.proofs.parts.vector.Statement.statement M
+vector_spec = tie.close (tie.spec (search needs) (search needs) (search needs) (search needs)
     -- cast-node
     (λ c. let minus = c.before.before.before.before.before.before.before in let free_of = minus.before in
     let start = free_of.before.before.before in let small = size_small _ minus.minus.ensures free_of.free_of.ensures start.requires in

@@ -19,9 +19,9 @@ use Blocks.{block-cs, block-ok, init-cs, init-ok, item-cs, item_ok, lets-cs, let
 use Blocks.{step_ok, till-cs, till-ok}
 use Rattle.tree.proofs.Asked.{knowing}
 
-pub +also-arg-bare-block-body-call-cases-cmd-expr-form-forms-give-index-init-item-lets-list-local-monad-nest-op-pass-pick-plain-redo-rest-run-set-step-tail-tails-term-test-till-unary-unit-valof-when-whole-spec :
+pub +also_arg_bare_block_body_call_cases_cmd_expr_form_forms_give_index_init_item_lets_list_local_monad_nest_op_pass_pick_plain_redo_rest_run_set_step_tail_tails_term_test_till_unary_unit_valof_when_whole_spec :
     {M : Type 1} → statement M
-+also-arg-bare-block-body-call-cases-cmd-expr-form-forms-give-index-init-item-lets-list-local-monad-nest-op-pass-pick-plain-redo-rest-run-set-step-tail-tails-term-test-till-unary-unit-valof-when-whole-spec =
++also_arg_bare_block_body_call_cases_cmd_expr_form_forms_give_index_init_item_lets_list_local_monad_nest_op_pass_pick_plain_redo_rest_run_set_step_tail_tails_term_test_till_unary_unit_valof_when_whole_spec =
     close also-rank.measure arg-rank.measure bare-rank.measure block-rank.measure body-rank.measure call-rank.measure
     cases-rank.measure cmd-rank.measure expr_rank.measure form-rank.measure forms-rank.measure give-rank.measure
     index-rank.measure init-rank.measure item-rank.measure lets-rank.measure list-rank.measure

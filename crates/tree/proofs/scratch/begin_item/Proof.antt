@@ -2,8 +2,8 @@ use Rattle.laws.proofs.Basics.{length-set, arith, needs}
 use Rattle.tree.proofs.Helpers.{room-is, item-begun, adds-refused, refused-grows}
 use Rattle.tree.proofs.scratch.begin_item.Tie as tie
 
-pub begin-item-spec : {M : Type 1} → Rattle.tree.proofs.scratch.begin_item.Statement.statement M
-begin-item-spec = tie.close (tie.spec (search needs) (λ c. omega (arith, room-is c.before.before.before.requires c.before.r.given.1))
+pub begin_item_spec : {M : Type 1} → Rattle.tree.proofs.scratch.begin_item.Statement.statement M
+begin_item_spec = tie.close (tie.spec (search needs) (λ c. omega (arith, room-is c.before.before.before.requires c.before.r.given.1))
     (λ c. omega (arith, room-is c.before.before.before.requires c.before.r.given.1))
     (λ c. omega (arith, room-is c.before.before.before.requires c.before.r.given.1))
     (λ c. omega (arith, room-is c.before.before.before.requires c.before.r.given.1))

@@ -9,6 +9,6 @@ mul-result c = omega (arith, room-is c.before.before.before.before.requires c.be
 shared-slice-read-result : tie.Need-shared-slice-read-result
 shared-slice-read-result c = omega (arith, room-is c.before.before.before.before.before.requires c.before.before.before.r.given.1)
 
-pub is-call-spec : {M : Type 1} → Rattle.tree.proofs.scratch.is_call.Statement.statement M
-is-call-spec = tie.close (tie.spec (search needs) mul-result shared-slice-read-result (search needs) (λ c. search call-short)
+pub is_call_spec : {M : Type 1} → Rattle.tree.proofs.scratch.is_call.Statement.statement M
+is_call_spec = tie.close (tie.spec (search needs) mul-result shared-slice-read-result (search needs) (λ c. search call-short)
     (λ c. search call-kind) (λ c. search call-refused))

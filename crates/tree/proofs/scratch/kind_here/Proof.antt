@@ -3,7 +3,7 @@ use Rattle.laws.proofs.Basics.{needs}
 use Rattle.language.specs.Reader.{kind_at}
 use Rattle.tree.proofs.scratch.kind_here.Tie as tie
 
-pub kind-here-spec : {M : Type 1} → Rattle.tree.proofs.scratch.kind_here.Statement.statement M
-kind-here-spec = tie.close (tie.spec (search needs) (search needs) (search needs) (search needs) (search needs)
+pub kind_here_spec : {M : Type 1} → Rattle.tree.proofs.scratch.kind_here.Statement.statement M
+kind_here_spec = tie.close (tie.spec (search needs) (search needs) (search needs) (search needs) (search needs)
     (λ c. λ src l. record { here = entry_here (kind_at src) c.before.before.before.r.given.1 (l.kinds _ c.before.if1.true) })
     (λ c. λ src l. search kind-past) (λ c. λ src l. search kind-refused))

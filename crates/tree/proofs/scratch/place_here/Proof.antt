@@ -3,8 +3,8 @@ use Rattle.laws.proofs.Basics.{needs}
 use Rattle.language.specs.Reader.{place_at}
 use Rattle.tree.proofs.scratch.place_here.Tie as tie
 
-pub place-here-spec : {M : Type 1} → Rattle.tree.proofs.scratch.place_here.Statement.statement M
-place-here-spec = tie.close (tie.spec (search needs) (search needs) (search needs) (search needs) (search needs) (search needs)
+pub place_here_spec : {M : Type 1} → Rattle.tree.proofs.scratch.place_here.Statement.statement M
+place_here_spec = tie.close (tie.spec (search needs) (search needs) (search needs) (search needs) (search needs) (search needs)
     (λ c. λ src l. record {
       here = λ at free e _. entry_here (place_at src) c.before.before.before.r.given.1 (l.places _ c.before.if1.true) at free e;
     }) (λ c. λ src l. search here-past) (λ c. λ src l. search here-refused))

@@ -9,6 +9,6 @@ mul-result c = omega (arith, room-is c.before.before.before.before.requires c.be
 shared-slice-read-result : tie.Need-shared-slice-read-result
 shared-slice-read-result c = omega (arith, room-is c.before.before.before.before.before.requires c.before.before.before.r.given.1)
 
-pub place-of-spec : {M : Type 1} → Rattle.tree.proofs.scratch.place_of.Statement.statement M
-place-of-spec = tie.close (tie.spec (search needs) mul-result shared-slice-read-result (search needs) (λ c. search place_short)
+pub place_of_spec : {M : Type 1} → Rattle.tree.proofs.scratch.place_of.Statement.statement M
+place_of_spec = tie.close (tie.spec (search needs) mul-result shared-slice-read-result (search needs) (λ c. search place_short)
     (λ c. search place-entry) (λ c. search place-refused))

@@ -10,8 +10,8 @@ returns c = (
       (c.minus2.ensures ∙ ap (λ (z : ℕ). z - 2) c.before.minus.ensures),
 )
 
-pub set-size-spec : {M : Type 1} → Rattle.tree.proofs.scratch.set_size.Statement.statement M
-set-size-spec = tie.close (tie.spec (search needs) (search needs) (search needs)
+pub set_size_spec : {M : Type 1} → Rattle.tree.proofs.scratch.set_size.Statement.statement M
+set_size_spec = tie.close (tie.spec (search needs) (search needs) (search needs)
     (λ c. omega (arith, room-is c.before.before.before.before.before.before.before.requires.0 c.before.before.before.before.r.given.1))
     (λ c. omega (arith, room-is c.before.before.before.before.before.before.before.requires.0 c.before.before.before.before.r.given.1))
     (λ c. omega (arith, room-is c.before.before.before.before.before.before.before.requires.0 c.before.before.before.before.r.given.1))

@@ -3,8 +3,8 @@ use Rattle.laws.proofs.Basics.{needs}
 use Rattle.language.specs.Reader.{value_at}
 use Rattle.tree.proofs.scratch.value_here.Tie as tie
 
-pub value-here-spec : {M : Type 1} → Rattle.tree.proofs.scratch.value_here.Statement.statement M
-value-here-spec = tie.close (tie.spec (search needs) (search needs) (search needs) (search needs) (search needs) (search needs)
+pub value_here_spec : {M : Type 1} → Rattle.tree.proofs.scratch.value_here.Statement.statement M
+value_here_spec = tie.close (tie.spec (search needs) (search needs) (search needs) (search needs) (search needs) (search needs)
     (λ c. λ src l. record {
       here = λ at free e _. entry_here (value_at src) c.before.before.before.r.given.1 (l.values _ c.before.if1.true) at free e;
     }) (λ c. λ src l. search here-past) (λ c. λ src l. search here-refused))
