@@ -12,7 +12,7 @@ invariant-loop text at quote i₀ i = is_closed (quoted quote 0 0 (drop at text)
 abbrev decreases-loop : tie.decreases-loop
 decreases-loop text at quote i₀ i = length text - i
 
-add-i : tie.Need-overflow-add-i invariant-loop decreases-loop
+add-i : tie.Need-overflow_add-i invariant-loop decreases-loop
 add-i c = let called = c.before.before.before in let head = called.before in let args = head.before.before.args in
     omega (arith, is-inside args.quote args.text.now head.loop.i (when-is _ called.character-at.ensures c.before.c.given.1))
 

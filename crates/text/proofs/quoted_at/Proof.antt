@@ -18,7 +18,7 @@ returns c = let matched = c.before.before.before in let called = matched.before.
     let one = when-is _ called.character-at.ensures matched.c.given.1 in
     c.fault-at.ensures ∙ constant-full _ _ _ _ head.loop.i head.loop.n one c.before.if1.true ∙ sym head.loop.invariant.2
 
-add-i : tie.Need-overflow-add-i invariant-loop decreases-loop
+add-i : tie.Need-overflow_add-i invariant-loop decreases-loop
 add-i c =
     let matched = c.before.before in let called = matched.before.before in let head = called.before in let args = head.before.before.args in
     omega (arith, is-inside args.quote args.text.now head.loop.i (when-is _ called.character-at.ensures matched.c.given.1))
