@@ -38,10 +38,10 @@ unfolding quoted character escape by_number by_digits
 strings = refl
 
 -- by number between quotes: the four bytes are one character; only the asterisk of a wrong one is taken, so digits after it count as characters
-by_number : map (λ (s : String). quoted 34 3 0 (bytes s)) ("*000*255A\"" ∷ "*2551\"" ∷ "A*256\"" ∷ "*25\"" ∷ "*0" ∷ "ABC*065\"" ∷ "ABC*300\"" ∷ [])
+by_number-examples : map (λ (s : String). quoted 34 3 0 (bytes s)) ("*000*255A\"" ∷ "*2551\"" ∷ "A*256\"" ∷ "*25\"" ∷ "*0" ∷ "ABC*065\"" ∷ "ABC*300\"" ∷ [])
     ≡ closed (0 ∷ 255 ∷ 65 ∷ []) 10 ∷ closed (255 ∷ 49 ∷ []) 6 ∷ faulty 41 1 ∷ faulty 41 0 ∷ unclosed ∷ faulty 43 3 ∷ faulty 41 3 ∷ []
 unfolding quoted character escape by_number by_digits
-by_number = refl
+by_number-examples = refl
 
 -- not closed: the end; the end after an asterisk; a newline, also after an asterisk; whatever else is wrong before it
 not-closed : map (λ (s : String). quoted 34 2 0 (bytes s)) ("a" ∷ "*" ∷ "a\n\"" ∷ "*\n\"" ∷ "*Q\t" ∷ "abc" ∷ "*\"" ∷ [])

@@ -1,4 +1,6 @@
 // What source text and assembly text share: line numbers, refusals, and characters between quotes.
+#![tactic(auto)]
+
 ghost use Rattle.std.specs.Prelude.{◌≡◌, drop};
 ghost use Rattle.text.specs.Line.{line_of, refusal};
 ghost use Rattle.text.specs.Quoted.{digit, by_digits, by_number, escape, character, fault_before, quoted};

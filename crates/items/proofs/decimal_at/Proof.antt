@@ -1,5 +1,5 @@
 use Rattle.laws.proofs.Basics.{◌-◌, length, arith, needs}
-use Rattle.laws.proofs.Cases.{held, failed}
+use Rattle.laws.proofs.Cases.{holds, fails}
 use Rattle.items.proofs.Decimals.{SoFar, digit-ready, digits-start, digits_more, no-decimal, decimal-stops, decimal-ends}
 use Rattle.items.proofs.decimal_at.Tie as tie
 
@@ -10,7 +10,7 @@ abbrev decreases-loop : tie.decreases-loop
 decreases-loop text at first n₀ i₀ n i = length text - i
 
 pub decimal_at_spec : {M : Type 1} → Rattle.items.proofs.decimal_at.Statement.statement M
-decimal_at_spec = tie.close (tie.spec invariant-loop decreases-loop (search needs) (search needs) (λ c. search (no-decimal, failed)) (λ c. search digits-start)
-    (search needs) (search needs) (λ c. search (decimal-stops, held, failed))
-    (λ c κs. digit-ready _ (omega arith) (held c.before.is-digit2.ensures c.if2.false))
-    (λ c. omega arith) (λ c. omega arith) (λ c. search (digits_more, held)) (λ c. search (decimal-ends, held)))
+decimal_at_spec = tie.close (tie.spec invariant-loop decreases-loop (search needs) (search needs) (λ c. search (no-decimal, fails)) (λ c. search digits-start)
+    (search needs) (search needs) (λ c. search (decimal-stops, holds, fails))
+    (λ c κs. digit-ready _ (omega arith) (holds c.before.is-digit2.ensures c.if2.false))
+    (λ c. omega arith) (λ c. omega arith) (λ c. search (digits_more, holds)) (λ c. search (decimal-ends, holds)))

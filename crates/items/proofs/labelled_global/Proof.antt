@@ -1,5 +1,5 @@
 use Rattle.laws.proofs.Basics.{arith, needs, eqb-true}
-use Rattle.laws.proofs.Cases.{held, failed}
+use Rattle.laws.proofs.Cases.{holds, fails}
 use Rattle.items.proofs.Places.{inside, byte_reads, ended-reads, ended-fails}
 use Rattle.items.proofs.Decimals.{decimal-reads, decimal-fails}
 use Rattle.items.proofs.Items.{a-global, no_item, global-open, global-unlabelled, global-short}
@@ -7,16 +7,16 @@ use Rattle.items.proofs.labelled_global.Tie as tie
 
 add-decimal-at : tie.Need-overflow-add-decimal-at
 add-decimal-at c = let args = c.before.before.before.args in
-    omega (arith, inside args.text.now args.at (eqb-true _ 76 (held c.before.has.ensures c.if1.false)) (omega arith))
+    omega (arith, inside args.text.now args.at (eqb-true _ 76 (holds c.before.has.ensures c.if1.false)) (omega arith))
 
 returns-3 : tie.Need-returns-3
 returns-3 c = let read = c.before.before.before in
     let called = read.before.before in
     let number = decimal-reads _ _ called.decimal-at.ensures read.m.given.1 in
-    no_item _ (global-open _ _ _ (search (byte_reads, held)) number (search ended-fails))
+    no_item _ (global-open _ _ _ (search (byte_reads, holds)) number (search ended-fails))
 
 pub labelled_global_spec : {M : Type 1} → Rattle.items.proofs.labelled_global.Statement.statement M
 labelled_global_spec = tie.close
-    (tie.spec (search needs) (λ c. search (no_item, global-short, failed)) add-decimal-at (search needs) (search needs) (search needs)
-    (λ c. search (a-global, byte_reads, held, decimal-reads, ended-reads)) (search needs) returns-3
-    (λ c. search (no_item, global-unlabelled, byte_reads, held, decimal-fails)))
+    (tie.spec (search needs) (λ c. search (no_item, global-short, fails)) add-decimal-at (search needs) (search needs) (search needs)
+    (λ c. search (a-global, byte_reads, holds, decimal-reads, ended-reads)) (search needs) returns-3
+    (λ c. search (no_item, global-unlabelled, byte_reads, holds, decimal-fails)))

@@ -3,14 +3,14 @@ use Rattle.text.specs.Answers.{as_character}
 use Rattle.text.proofs.Quotes.{three-bytes, few_bytes}
 use Rattle.text.proofs.by_number.Tie as tie
 
-returns-3 : tie.Need-returns-3
+returns-3 : tie.Need-returns
 returns-3 c = let by_digits = c.by_digits in
-    let args = c.before.before.before.before.before.before.before.args in
+    let args = c.args in
     by_digits.ensures ∙ sym (ap as_character (three-bytes args.text.now args.at (omega arith)))
 
 pub by_number_spec : {M : Type 1} → Rattle.text.proofs.by_number.Statement.statement M
 unfolding as_character
 by_number_spec = tie.close
-    (tie.spec (λ c. sym (ap as_character (few_bytes c.before.before.args.text.now c.before.before.args.at (omega arith)))) (search needs)
-    (λ c. sym (ap as_character (few_bytes c.before.before.before.args.text.now c.before.before.before.args.at (omega arith))))
+    (tie.spec (λ c. sym (ap as_character (few_bytes c.args.text.now c.args.at (omega arith)))) (search needs)
+    (λ c. sym (ap as_character (few_bytes c.args.text.now c.args.at (omega arith))))
     (search needs) (search needs) (search needs) (search needs) (search needs) (search needs) returns-3)

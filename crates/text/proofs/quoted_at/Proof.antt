@@ -6,55 +6,55 @@ use Rattle.text.proofs.Quotes.{is-inside, closing-inside}
 use Rattle.text.proofs.Constants.{added, constant-start, constant-next, constant-end, constant-unclosed, constant-mistake, constant-full}
 use Rattle.text.proofs.quoted_at.Tie as tie
 
-abbrev invariant-loop : tie.invariant-loop
+abbrev invariant-loop : tie.invariant-loop-width
 invariant-loop text at quote room n₀ i₀ n i = (n ≤ room) × (at + n ≤ i) ×
     (as_quoted (quoted quote room 0 (drop at text)) ≡ added n (i - at) (as_quoted (quoted quote (room - n) 0 (drop i text))))
 
-abbrev decreases-loop : tie.decreases-loop
+abbrev decreases-loop : tie.decreases-loop-width
 decreases-loop text at quote room n₀ i₀ n i = length text - i
 
-returns : tie.Need-returns invariant-loop decreases-loop
-returns c = let matched = c.before.before.before in let called = matched.before.before in let head = called.before in
-    let one = when-is _ called.character-at.ensures matched.c.given.1 in
-    c.fault-at.ensures ∙ constant-full _ _ _ _ head.loop.i head.loop.n one c.before.if1.true ∙ sym head.loop.invariant.2
+returns : tie.Need-returns-then-n-room invariant-loop decreases-loop
+returns c = let matched = c in let called = matched in let head = called in
+    let one = when-is _ called.character_at-c.ensures matched.in-Is.is in
+    c.fault_at.ensures ∙ constant-full _ _ _ _ head.loop-width.i head.loop-width.n one c.if-n-room.true ∙ sym head.loop-width.invariant.2
 
 add-i : tie.Need-overflow_add-i invariant-loop decreases-loop
 add-i c =
-    let matched = c.before.before in let called = matched.before.before in let head = called.before in let args = head.before.before.args in
-    omega (arith, is-inside args.quote args.text.now head.loop.i (when-is _ called.character-at.ensures matched.c.given.1))
+    let matched = c in let called = matched in let head = called in let args = head.args in
+    omega (arith, is-inside args.quote args.text.now head.loop-width.i (when-is _ called.character_at-c.ensures matched.in-Is.is))
 
-loop-less : tie.Need-loop-smaller invariant-loop decreases-loop
+loop-less : tie.Need-loop-width-smaller invariant-loop decreases-loop
 loop-less c =
-    let matched = c.before.before in let called = matched.before.before in let head = called.before in let args = head.before.before.args in
-    omega (arith, is-inside args.quote args.text.now head.loop.i (when-is _ called.character-at.ensures matched.c.given.1))
+    let matched = c in let called = matched in let head = called in let args = head.args in
+    omega (arith, is-inside args.quote args.text.now head.loop-width.i (when-is _ called.character_at-c.ensures matched.in-Is.is))
 
-loop-again : tie.Need-loop-preserved invariant-loop decreases-loop
+loop-again : tie.Need-loop-width-preserved invariant-loop decreases-loop
 loop-again c =
-    let matched = c.before.before in let called = matched.before.before in let head = called.before in let args = head.before.before.args in
-    let one = when-is _ called.character-at.ensures matched.c.given.1 in (
+    let matched = c in let called = matched in let head = called in let args = head.args in
+    let one = when-is _ called.character_at-c.ensures matched.in-Is.is in (
       omega arith,
-      omega (arith, is-inside args.quote args.text.now head.loop.i one),
-      head.loop.invariant.2 ∙ constant-next _ _ _ _ head.loop.i head.loop.n one (omega arith) (omega arith),
+      omega (arith, is-inside args.quote args.text.now head.loop-width.i one),
+      head.loop-width.invariant.2 ∙ constant-next _ _ _ _ head.loop-width.i head.loop-width.n one (omega arith) (omega arith),
     )
 
-add-t13 : tie.Need-overflow-add-t13 invariant-loop decreases-loop
-add-t13 c = let called = c.before.before in let head = called.before in let args = head.before.before.args in
-    let closing = when-closing _ called.character-at.ensures c.enum_told.given.1 in
-    omega (arith, closing-inside args.quote args.text.now head.loop.i closing)
+add-t13 : tie.Need-overflow_add-result invariant-loop decreases-loop
+add-t13 c = let called = c in let head = called in let args = head.args in
+    let closing = when-closing _ called.character_at-c.ensures c.in-Closing.is in
+    omega (arith, closing-inside args.quote args.text.now head.loop-width.i closing)
 
-returns-3 : tie.Need-returns-3 invariant-loop decreases-loop
-returns-3 c = let called = c.before.before in let head = called.before in
-    let ended = when-ended _ called.character-at.ensures c.enum-told2.given.1 in
-    constant-unclosed _ _ _ _ head.loop.i head.loop.n ended ∙ sym head.loop.invariant.2
+returns-3 : tie.Need-returns-in-Ended invariant-loop decreases-loop
+returns-3 c = let called = c in let head = called in
+    let ended = when-ended _ called.character_at-c.ensures c.in-Ended.is in
+    constant-unclosed _ _ _ _ head.loop-width.i head.loop-width.n ended ∙ sym head.loop-width.invariant.2
 
-returns-4 : tie.Need-returns-4 invariant-loop decreases-loop
-returns-4 c = let matched = c.before.before in let called = matched.before.before in let head = called.before in
-    let mistake = when-mistake _ called.character-at.ensures matched.c2.given.1 in
-    c.fault-at2.ensures ∙ constant-mistake _ _ _ _ head.loop.i head.loop.n mistake ∙ sym head.loop.invariant.2
+returns-4 : tie.Need-returns-in-Mistake invariant-loop decreases-loop
+returns-4 c = let matched = c in let called = matched in let head = called in
+    let mistake = when-mistake _ called.character_at-c.ensures matched.in-Mistake.is in
+    c.fault_at-in-Mistake.ensures ∙ constant-mistake _ _ _ _ head.loop-width.i head.loop-width.n mistake ∙ sym head.loop-width.invariant.2
 
 pub quoted_at_spec : {M : Type 1} → Rattle.text.proofs.quoted_at.Statement.statement M
 quoted_at_spec = tie.close (tie.spec invariant-loop decreases-loop
-    (λ c. let args = c.before.args in (omega arith, omega arith, constant-start args.quote args.room args.text.now args.at))
+    (λ c. let args = c.args in (omega arith, omega arith, constant-start args.quote args.room args.text.now args.at))
     (search needs) (search needs) (search needs) (search needs) returns (λ c. omega arith) add-i loop-less loop-again (search needs) (search needs)
-    add-t13 (λ c. constant-end _ _ _ _ _ _ (search when-closing) ∙ sym c.before.before.before.loop.invariant.2) (search needs)
+    add-t13 (λ c. constant-end _ _ _ _ _ _ (search when-closing) ∙ sym c.loop-width.invariant.2) (search needs)
     returns-3 (search needs) (search needs) (search needs) returns-4)
