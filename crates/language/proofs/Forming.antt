@@ -4,7 +4,7 @@ use Rattle.language.specs.Tree as T
 use Rattle.language.specs.Tree.{Item, Function, Declaration, Program}
 use Rattle.language.specs.Names as N
 use Rattle.language.specs.Names.{Scope, opened, lookup}
-use Rattle.language.specs.Constants.{judge}
+use Rattle.language.specs.Constants.{judge, judged_word, for_global}
 use Rattle.language.specs.Resolved.{Body, Start, nowhere, in_global}
 use Rattle.language.specs.Program as P
 use Rattle.language.specs.Program.{globals_after, manifests_after, start_of, with_function, functions_after, declared_by, inside, body_of, resolved}
@@ -48,13 +48,13 @@ module _ (functions strings : ℕ) (text : List ℕ) where
   globals-scoped : (s : Scope) (is : List Item) → Scoped functions 0 s → Scoped functions 0 (globals_after text s is)
   unfolding globals_after Scoped
   globals-scoped s [] sc = sc
-  globals-scoped s (i ∷ is) sc = globals-scoped _ is (omega (arith, within-most i.constant 399 (judge text s i.constant)), sc)
+  globals-scoped s (i ∷ is) sc = globals-scoped (N.declared s i.name (N.global (judged_word (for_global text s i.constant)))) is (omega (arith, within-most i.constant 399 (judge text s i.constant)), sc)
 
   manifests-scoped : (s : Scope) (is : List Item) → FineItems strings is → Scoped functions 0 s → Scoped functions 0 (manifests_after text s is)
   unfolding manifests_after Scoped FineItems
   manifests-scoped s [] f sc = sc
   manifests-scoped s (i ∷ is) f sc =
-      manifests-scoped _ is f.1 (word_below (judge text s i.constant) (judge-word functions 0 text s i.constant sc f.0.constant), sc)
+      manifests-scoped (N.declared s i.name (N.manifest (judged_word (judge text s i.constant)))) is f.1 (word_below (judge text s i.constant) (judge-word functions 0 text s i.constant sc f.0.constant), sc)
 
   function-scoped : (s : Scope) (n : T.Name) (k : ℕ) (x : Start) → k < functions → Scoped functions 0 s → Scoped functions 0 (with_function s n k x)
   unfolding Scoped

@@ -59,6 +59,7 @@ module _ (functions : List Fun) (place : Placement) (memory : ℕ) (input : List
 -- ---- whole runs
 
 over-same : {A : Type 0} {x y : Result A} {s : State} → Same x y → Over x s → Over y s
+over-same {A = A} {y = y} {s = s} later o = elim o [ ]
 over-same same o = o
 
 over-once : {A : Type 0} {x : Result A} {s t : State} → Over x s → Over x t → s ≡ t

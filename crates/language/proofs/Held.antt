@@ -23,6 +23,9 @@ pub data Kept (first : ℕ) (s : State) {A : Type 0} : Result A → Type 0 where
   k-ok : {a : A} {t : State} → Keeps first s t → Kept first s (ok a t)
 
 pub over-keeps : {first : ℕ} {s t : State} {A : Type 0} {x : Result A} → Kept first s x → Over x t → Keeps first s t
+over-keeps {first = first} {s = s} {t = t} {A = A} k-unfinished o = elim o [ ]
+over-keeps {first = first} {s = s} {t = t} {A = A} k-undefined o = elim o [ ]
+over-keeps {first = first} {s = s} {t = t} {A = A} (k-returned _) o = elim o [ ]
 over-keeps (k-finished k) by_finish = k
 over-keeps (k-ok k) by_return = k
 

@@ -59,6 +59,9 @@ module _ (limit : ℕ) where
   }
 
   over-both : {A : Type 0} {n : ℕ} {x y : Result A} {s : State} → Both limit n x y → Over x s → s.used ≤ limit → Over y s
+  over-both {A = A} {n = n} {y = y} {s = s} b-unfinished o l = elim o [ ]
+  over-both {A = A} {n = n} {y = y} {s = s} b-undefined o l = elim o [ ]
+  over-both {A = A} {n = n} {y = y} {s = s} (b-returned _ _) o l = elim o [ ]
   over-both {s = s} (b-finished m e) by_finish l = rw (e l) by_finish
   over-both {s = s} (b-ok m e) by_return l = rw (e l) by_return
 

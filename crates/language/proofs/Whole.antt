@@ -43,7 +43,7 @@ judged text = judged_bytes (bytes text)
 
 -- ---- source runs, with functions' entries from 1000 on, strings from 2000 on, each with room for the longest, and the stack from 20,000 on
 
-unfoldable every_from : (first apart : ℕ) → {A : Type 0} → List A → List ℕ
+unfoldable every_from : {A : Type 0} (first apart : ℕ) → List A → List ℕ
 every_from first apart [] = []
 every_from first apart (x ∷ xs) = first ∷ every_from (first + apart) apart xs
 

@@ -3,6 +3,8 @@
 // `specs/` has the machine of document 01 as definitions, a file for each of its parts; every function here is proved
 // to do what its definition says, for any registers, memory, input and output. `run` starts an image; `resume` goes on
 // from any registers, so a run that stopped for budget or for room can be carried on.
+#![tactic(auto)]
+
 ghost use Rattle.std.specs.Prelude.{◌≡◌, cond, eqb};
 ghost use Rattle.words.specs.Words.{add, neg, complement};
 ghost use Rattle.machine.specs.Outcome.{Out, ok, read};

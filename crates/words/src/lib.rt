@@ -2,6 +2,8 @@
 //
 // The machine's acts and the definition of the source run both stand on `specs/Words.antt`; each function here is
 // proved equal to its definition there.
+#![tactic(auto)]
+
 ghost use Rattle.std.specs.Prelude.{◌≡◌, not, pos, neg_ℤ, if◌then◌else◌, unsigned_abs};
 ghost use Rattle.std.specs.Int.Signed.{non_neg};
 ghost use Rattle.words.specs.Words.{value, word_of, add, sub, neg, complement, mul, quot, rem, truth, below, eq, ne, lt, ge, gt, le, conj, disj};
