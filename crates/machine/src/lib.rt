@@ -21,7 +21,7 @@ use words::Divided;
 
 // The registers, the places reached in the input and the output, and what the last completed instruction stored: whether anything,
 // the first address, and the number of words.
-#[derive(Drop)]
+#[derive(Clone, Copy, Drop)]
 pub struct Registers {
     pub a: u16,
     pub b: u16,

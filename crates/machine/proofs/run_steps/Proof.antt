@@ -3,11 +3,11 @@ use Rattle.machine.specs.State.{at}
 use Rattle.machine.proofs.Runs.{Left, left-all, left_out, left-run-steps, left-finish, left-stop}
 use Rattle.machine.proofs.run_steps.Tie as tie
 
-abbrev invariant-loop : tie.invariant-loop
+abbrev invariant-loop : tie.invariant-loop-left
 invariant-loop memory₀ input output₀ budget r₀ left₀ memory output r left =
     Left input budget (at r₀ memory₀ output₀) left (at r memory output) × (length memory ≡ length memory₀) × (length output ≡ length output₀)
 
-abbrev decreases-loop : tie.decreases-loop
+abbrev decreases-loop : tie.decreases-loop-left
 decreases-loop memory₀ input output₀ budget r₀ left₀ memory output r left = left
 
 pub run_steps_spec : {M : Type 1} → Rattle.machine.proofs.run_steps.Statement.statement M

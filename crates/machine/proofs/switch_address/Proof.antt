@@ -3,10 +3,10 @@ use Rattle.machine.specs.Acts.{search as searched}
 use Rattle.machine.proofs.Laws.{switch-address-stops, switch-address-hits, switch-address-goes, switch-address-none}
 use Rattle.machine.proofs.switch_address.Tie as tie
 
-abbrev invariant-loop : tie.invariant-loop
+abbrev invariant-loop : tie.invariant-loop-left
 invariant-loop memory a default n from i₀ left₀ i left = searched memory a default n from ≡ searched memory a default left i
 
-abbrev decreases-loop : tie.decreases-loop
+abbrev decreases-loop : tie.decreases-loop-left
 decreases-loop memory a default n from i₀ left₀ i left = left
 
 pub switch_address_spec : {M : Type 1} → Rattle.machine.proofs.switch_address.Statement.statement M

@@ -6,4 +6,4 @@ use Rattle.machine.proofs.word_at.Tie as tie
 pub word_at_spec : {M : Type 1} → Rattle.machine.proofs.word_at.Statement.statement M
 unfolding read as_word
 word_at_spec = tie.close
-    (tie.spec (search needs) (search needs) (λ c. simp (lt-ltb _ _ c.before.if1.true)) (λ c. simp (le-ltb _ _ c.if1.false)))
+    (tie.spec (search needs) (search needs) (λ c. simp (lt-ltb _ _ c.if-at-memory.true)) (λ c. simp (le-ltb _ _ c.if-at-memory.false)))

@@ -4,5 +4,5 @@ use Rattle.machine.proofs.Registers.wrch.Tie as tie
 
 pub wrch_spec : {M : Type 1} → Rattle.machine.proofs.Registers.wrch.Statement.statement M
 wrch_spec = tie.close
-    (tie.spec (search needs) (search needs) (search needs) (search needs) (λ c. stepped (sent-in _ _ _ c.before.if1.true) refl)
+    (tie.spec (search needs) (search needs) (search needs) (search needs) (λ c. stepped (sent-in _ _ _ c.if-written-output.true) refl)
     (λ c. search (stepped-stop, sent-full)))
