@@ -4,7 +4,7 @@ use Rattle.laws.proofs.Basics.{ne_eqb, lt-ltb}
 use Rattle.laws.proofs.Cases.{by_cases, by_equal}
 use Rattle.words.specs.Words.{add}
 use Rattle.machine.specs.Outcome as O
-use Rattle.machine.specs.Acts.{search}
+use Rattle.machine.specs.Acts.{sought}
 use Rattle.language.specs.Resolved as R
 use Rattle.language.specs.Resolved.{Expr, CaseLabel, Cases, has_default, has_case, cases_of, case_count}
 use Rattle.language.specs.State.{State, ok}
@@ -37,20 +37,20 @@ or-none (some cs) = refl
 
 module _ (Γ : Env) (sized : Sized Γ) (m : List ℕ) (agree : Agree Γ m) (w d : ℕ) where
   -- one pair
-  pair-hit : {i v c : ℕ} (n : ℕ) → Word Γ i v → Word Γ (suc i) c → v ≡ w → search m w d (suc n) i ≡ O.ok c
-  unfolding search O.read
+  pair-hit : {i v c : ℕ} (n : ℕ) → Word Γ i v → Word Γ (suc i) c → v ≡ w → sought m w d (suc n) i ≡ O.ok c
+  unfolding sought O.read
   pair-hit {i} {v} {c} n x y e = let k : add i 1 ≡ suc i = omega (arith, x.below, sized.most) in
       let l = lt-ltb i (length m) (omega (arith, x.below, agree.size)) in
       let l' = lt-ltb (suc i) (length m) (omega (arith, y.below, agree.size)) in
       rw (l, x.is m agree, eq-eqb v w e, k, l', y.is m agree) refl
 
-  pair-miss : {i v c : ℕ} (n : ℕ) → Word Γ i v → Word Γ (suc i) c → (v ≡ w → ⊥) → search m w d (suc n) i ≡ search m w d n (suc (suc i))
-  unfolding search O.read
+  pair-miss : {i v c : ℕ} (n : ℕ) → Word Γ i v → Word Γ (suc i) c → (v ≡ w → ⊥) → sought m w d (suc n) i ≡ sought m w d n (suc (suc i))
+  unfolding sought O.read
   pair-miss {i} {v} {c} n x y e = let k : add i 2 ≡ suc (suc i) = omega (arith, x.below, sized.most) in
       rw (lt-ltb i (length m) (omega (arith, x.below, agree.size)), x.is m agree, ne_eqb v w e, k) refl
 
   search-labels : (l : ℕ) (ls : List CaseLabel) (n : ℕ) {i j : ℕ} → Code Γ i (pairs_of l ls) j
-      → search m w d (cases_of ls + n) i ≡ cond (has_case w ls) (O.ok (Γ.lab l)) (search m w d n j)
+      → sought m w d (cases_of ls + n) i ≡ cond (has_case w ls) (O.ok (Γ.lab l)) (sought m w d n j)
   unfolding cases_of pairs_of has_case
   search-labels l [] n {i} {j} k = let z : 0 + n ≡ n = omega arith in rw (z, at-end Γ k) refl
   search-labels l (R.default ∷ ls) n k = search-labels l ls n k
@@ -61,8 +61,8 @@ module _ (Γ : Env) (sized : Sized Γ) (m : List ℕ) (agree : Agree Γ m) (w d 
       rw (ne_eqb w v (λ t. q (sym t))) (pair-miss (cases_of ls + n) x y q ∙ search-labels l ls n k₂)))
 
   search-table : (l other : ℕ) (cs : Cases) {i j : ℕ} → d ≡ Γ.lab other → Code Γ i (table_of l cs) j
-      → search m w d (case_count cs) i ≡ O.ok (Γ.lab (label_at (has_case w) l other cs))
-  unfolding case_count table_of label_at search
+      → sought m w d (case_count cs) i ≡ O.ok (Γ.lab (label_at (has_case w) l other cs))
+  unfolding case_count table_of label_at sought
   search-table l other R.no_cases e k = ap (λ (x : ℕ). O.ok x) e
   search-table l other (R.cases ls c cs) {i} {j} e k = cut Γ (pairs_of l ls) _ k λ b₁ k₁ k₂. search-labels l ls (case_count cs) k₁
       ∙ by_cases (has_case w ls) (λ t. rw t refl) (λ t. rw t (search-table (suc l) other cs e k₂))
@@ -127,7 +127,7 @@ module _ (Γ : Env) where
         (label_at (has_case w) (n + expr_labels e + 1) (default_of (n + expr_labels e + 1) (n + expr_labels e) cs) cs)
         = chosen (has_case w) (n + expr_labels e + 1) (n + expr_labels e + 1 + commands_in cs) _ cs k₈ f.1 default' in
         let m : List ℕ = v₁.mem in
-        let found : search m v₁.regs.a (Γ.lab (default_of (n + expr_labels e + 1) (n + expr_labels e) cs)) (case_count cs) (suc (suc b₂))
+        let found : sought m v₁.regs.a (Γ.lab (default_of (n + expr_labels e + 1) (n + expr_labels e) cs)) (case_count cs) (suc (suc b₂))
         ≡ O.ok (Γ.lab (label_at (has_case w) (n + expr_labels e + 1) (default_of (n + expr_labels e + 1) (n + expr_labels e) cs) cs))
         = rw ew (search-table Γ fits.sized m x₁.rel.agree w _ (n + expr_labels e + 1) _ cs refl k₆) in
         let z : Sim Γ 1 p h h s₁ v₁ s₁ _

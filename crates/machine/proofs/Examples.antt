@@ -5,7 +5,7 @@ use Rattle.words.specs.Words.{value, word_of, mul, quot, rem, below, shl, shr}
 use Rattle.machine.specs.Outcome.{read, write}
 use Rattle.machine.specs.State.{at, start_registers}
 use Rattle.machine.specs.Fetch.{fetch}
-use Rattle.machine.specs.Acts.{indirected, returned, combined, search, switched, received, sent}
+use Rattle.machine.specs.Acts.{indirected, returned, combined, sought, switched, received, sent}
 use Rattle.machine.specs.Step.{keep, stored, called, jumped, perform, execute, step}
 use Rattle.machine.specs.Run.{Outcome, steps, resume, carried_on, largest, allowed, run}
 use Rattle.machine.specs.declared.Registers.{Registers}
@@ -71,7 +71,7 @@ record Runs : Type 0 where
   end-of-input : (ran 1 (image (57371 ∷ []))).state.regs.a ≡ 65535
 
 runs : Runs
-unfolding image letter countdown choice ran value word_of mul quot rem below shl shr read write fetch indirected returned combined search switched
+unfolding image letter countdown choice ran value word_of mul quot rem below shl shr read write fetch indirected returned combined sought switched
     received sent keep stored called jumped perform execute step steps resume
 runs = record { ends = refl; places = refl; writes = refl; written = refl; half-call-kept = refl; end-of-input = refl }
 
@@ -101,7 +101,7 @@ store-table =
     (9, image (8492 ∷ 8704 ∷ 600 ∷ [])) gives (true, 300, 1) ∷ (9, image (8492 ∷ 49563 ∷ [])) gives (true, 300, 1) ∷ []
 
 stores : Each (λ g. said (ran g.0 g.1)) store-table
-unfolding image letter storing ran said nothing value word_of mul quot rem below shl shr read write fetch indirected returned combined search switched
+unfolding image letter storing ran said nothing value word_of mul quot rem below shl shr read write fetch indirected returned combined sought switched
     received sent keep stored called jumped perform execute step steps resume
 stores = refl
 
@@ -110,7 +110,7 @@ unchanged : bare_outcome (run 100 letter [] (7 ∷ []) 100) ≡ W.run 100 letter
 unchanged = run-unchanged 100 letter [] (7 ∷ []) 100
 
 unchanged-count : (W.run 100 letter [] (7 ∷ []) 100).count ≡ 6
-unfolding letter value word_of mul quot rem below shl shr read write search W.fetch W.indirected W.returned W.combined W.switched W.received W.sent
+unfolding letter value word_of mul quot rem below shl shr read write sought W.fetch W.indirected W.returned W.combined W.switched W.received W.sent
     W.keep W.stored W.called W.jumped W.perform W.execute W.step W.steps W.resume
 unchanged-count = refl
 
@@ -137,7 +137,7 @@ record Places : Type 0 where
   cut : allowed (largest - 3) 5 ≡ 3
 
 places : Places
-unfolding image letter ran placed from_places value word_of mul quot rem below shl shr read write fetch indirected returned combined search switched
+unfolding image letter ran placed from_places value word_of mul quot rem below shl shr read write fetch indirected returned combined sought switched
     received sent keep stored called jumped perform execute step steps resume
 places = record { reads_end = refl; takes_none = refl; stops-full = refl; room-kept = refl; counts = refl; cut = refl }
 

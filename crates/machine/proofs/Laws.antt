@@ -6,7 +6,7 @@ use Rattle.laws.proofs.Cases.{contradiction}
 use Rattle.words.specs.Words.{add}
 use Rattle.machine.specs.Outcome.{Out, ok, stop, read, write}
 use Rattle.machine.specs.State.{State, at, with_a, with_c, framed, having_stored, took, wrote}
-use Rattle.machine.specs.Acts.{indirected, returned, search, switched, received, sent}
+use Rattle.machine.specs.Acts.{indirected, returned, sought, switched, received, sent}
 use Rattle.machine.specs.Step.{StepResult, done, finished, stopped, result_of, keep, stored, called, jumped}
 use Rattle.machine.specs.Answers.{as_word, as_acted, as_result, number_of, registers_of, left, Steps}
 use Rattle.machine.specs.declared.Registers.{Registers}
@@ -160,26 +160,26 @@ received-end r input h e = simp (le-ltb _ _ h) e
 -- ---- act 23: one pair passed, the pair found, a number past the memory
 
 module _ (m : List ℕ) (a d : ℕ) where
-  search-next : (n i : ℕ) {v j : ℕ} → 0 < n → read m i ≡ ok v → (v ≡ a → ⊥) → j ≡ add i 2 → search m a d n i ≡ search m a d (n - 1) j
-  unfolding search
+  search-next : (n i : ℕ) {v j : ℕ} → 0 < n → read m i ≡ ok v → (v ≡ a → ⊥) → j ≡ add i 2 → sought m a d n i ≡ sought m a d (n - 1) j
+  unfolding sought
   search-next zero i h e ne q = absurd (omega arith)
   search-next (suc k) i h e ne q = let s : suc k - 1 ≡ k = omega arith in simp (e, ne_eqb _ _ ne, q, s)
 
-  search-hit : (n i : ℕ) {v : ℕ} → 0 < n → read m i ≡ ok v → v ≡ a → search m a d n i ≡ read m (add i 1)
-  unfolding search
+  search-hit : (n i : ℕ) {v : ℕ} → 0 < n → read m i ≡ ok v → v ≡ a → sought m a d n i ≡ read m (add i 1)
+  unfolding sought
   search-hit zero i h e q = absurd (omega arith)
   search-hit (suc k) i h e q = simp (e, eq-eqb _ _ q)
 
-  search-past : (n i : ℕ) {k : ℕ} → 0 < n → read m i ≡ stop k → search m a d n i ≡ stop k
-  unfolding search
+  search-past : (n i : ℕ) {k : ℕ} → 0 < n → read m i ≡ stop k → sought m a d n i ≡ stop k
+  unfolding sought
   search-past zero i h e = absurd (omega arith)
   search-past (suc l) i h e = simp e
 
 -- where the whole search is what is left of it, of n pairs from i on
-module _ (m : List ℕ) (a d n i : ℕ) {o : Out ℕ} (inv : o ≡ search m a d n i) where
+module _ (m : List ℕ) (a d n i : ℕ) {o : Out ℕ} (inv : o ≡ sought m a d n i) where
   pub switch-address-none : n ≤ 0 → W.Is d ≡ as_word o
-  unfolding search as_word
-  switch-address-none z = let e : n ≡ 0 = omega arith in let q : o ≡ search m a d 0 i = rw e at inv in simp q
+  unfolding sought as_word
+  switch-address-none z = let e : n ≡ 0 = omega arith in let q : o ≡ sought m a d 0 i = rw e at inv in simp q
 
   module _ (h : 0 < n) {w : Word} (p : w ≡ as_word (read m i)) where
     pub switch-address-stops : {k : ℕ} → w ≡ W.Stopped k → W.Stopped k ≡ as_word o
@@ -189,7 +189,7 @@ module _ (m : List ℕ) (a d n i : ℕ) {o : Out ℕ} (inv : o ≡ search m a d 
     pub switch-address-hits : {v j : ℕ} {r : Word} → w ≡ W.Is v → v ≡ a → j ≡ add i 1 → r ≡ as_word (read m j) → r ≡ as_word o
     switch-address-hits q e hj hr = simp (inv, search-hit m a d n i h (is_ok _ p q) e, ← hj) hr
 
-    pub switch-address-goes : {v j : ℕ} → w ≡ W.Is v → (v ≡ a → ⊥) → j ≡ add i 2 → o ≡ search m a d (n - 1) j
+    pub switch-address-goes : {v j : ℕ} → w ≡ W.Is v → (v ≡ a → ⊥) → j ≡ add i 2 → o ≡ sought m a d (n - 1) j
     switch-address-goes q e hj = inv ∙ search-next m a d n i h (is_ok _ p q) e hj
 
 module _ (r : Registers) (m : List ℕ) {a : Word} (pa : a ≡ as_word (read m r.c)) where
@@ -202,7 +202,7 @@ module _ (r : Registers) (m : List ℕ) {a : Word} (pa : a ≡ as_word (read m r
     unfolding switched as_acted
     switch-default-past q = simp (is_ok _ pa qa, ← hi, is_stop _ pb q)
 
-    module _ {d j : ℕ} {e : Word} (qb : b ≡ W.Is d) (hj : j ≡ add r.c 2) (pe : e ≡ as_word (search m r.a d n j)) where
+    module _ {d j : ℕ} {e : Word} (qb : b ≡ W.Is d) (hj : j ≡ add r.c 2) (pe : e ≡ as_word (sought m r.a d n j)) where
       pub switch-pair-past : {k : ℕ} → e ≡ W.Stopped k → T.Stopped k ≡ as_acted (switched r m)
       unfolding switched as_acted
       switch-pair-past q = simp (is_ok _ pa qa, ← hi, is_ok _ pb qb, ← hj, is_stop _ pe q)

@@ -6,7 +6,7 @@ use Rattle.machine.specs.Outcome.{Out, ok, stop, ◌>>=◌, read, write}
 use Rattle.machine.specs.State.{State, at, with_c}
 use Rattle.machine.specs.Fetch.{Fetch, fetch, bit}
 use Rattle.machine.specs.Acts.{Act, unlisted, indirect, negate, invert, back, finish, switch, rdch, wrch, dyadic, unless_zero, acts, act_of}
-use Rattle.machine.specs.Acts.{indirected, returned, combined, search, switched, received, sent}
+use Rattle.machine.specs.Acts.{indirected, returned, combined, sought, switched, received, sent}
 use Rattle.machine.specs.Step.{StepResult, done, finished, stopped, result_of, keep, stored, called, jumped, perform, Function, L, S, A, J, T, F}
 use Rattle.machine.specs.Step.{K, X, function_of, execute, step, on_fetch}
 use Rattle.machine.specs.declared.Registers.{Registers}
@@ -46,8 +46,8 @@ pub yields-returned : (r : Registers) (m : List ℕ) → Yields (SameWritten r) 
 unfolding returned
 yields-returned r m = yields-bind (yields-read m _) (λ c _. yields-bind (yields-read m _) (λ p _. gives (record { same = refl })))
 
-yields-search : (m : List ℕ) (a d n i : ℕ) → Yields Any (search m a d n i)
-unfolding search
+yields-search : (m : List ℕ) (a d n i : ℕ) → Yields Any (sought m a d n i)
+unfolding sought
 yields-search m a d zero i = gives tt
 yields-search m a d (suc n) i = yields-bind (yields-read m i) (λ v _. yields-cond (eqb v a) (yields-read m _) (yields-search m a d n _))
 

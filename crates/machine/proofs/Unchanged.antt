@@ -6,7 +6,7 @@ use Rattle.machine.specs.Outcome.{Out, ok, stop, ◌>>=◌, read, write}
 use Rattle.machine.specs.State.{State, at}
 use Rattle.machine.specs.Fetch.{Fetch, fetch}
 use Rattle.machine.specs.Acts.{Act, unlisted, indirect, negate, invert, back, finish, switch, rdch, wrch, dyadic, act_of, indirected, returned}
-use Rattle.machine.specs.Acts.{combined, search, switched, received, sent}
+use Rattle.machine.specs.Acts.{combined, sought, switched, received, sent}
 use Rattle.machine.specs.Step.{StepResult, done, finished, stopped, result_of, keep, stored, called, jumped, perform, Function, L, S, A, J, T, F}
 use Rattle.machine.specs.Step.{K, X, function_of, execute, on_fetch, step}
 use Rattle.machine.specs.Run.{Outcome, on_result, steps, resume, run}
@@ -73,7 +73,7 @@ same-perform input back s = same-keep s _ (map-bind bare (read s.mem _) _ (λ c.
 same-perform input (dyadic f) s = same-keep s _ (map-bind bare (f s.regs.b s.regs.a) _ (λ v. refl))
 same-perform input finish s = refl
 same-perform input switch s = same-keep s _ (map-bind bare (read s.mem s.regs.c) _ (λ n.
-    map-bind bare (read s.mem _) _ (λ d. map-bind bare (search s.mem s.regs.a d n _) _ (λ c. refl))))
+    map-bind bare (read s.mem _) _ (λ d. map-bind bare (sought s.mem s.regs.a d n _) _ (λ c. refl))))
 same-perform input rdch s = same-keep s _ (ap ok (same_received s.regs input))
 same-perform input wrch s = same-result (sent s) (same_sent s)
 

@@ -4,7 +4,7 @@ use Rattle.laws.proofs.Basics.{ℕ, zero, suc, ◌+◌, ◌/◌, ◌%◌, List, 
 use Rattle.words.specs.Words.{add, neg, complement}
 use Rattle.machine.specs.Outcome.{Out, ok, stop, ◌>>=◌, read, write}
 use Rattle.machine.specs.Fetch.{Fetch, bit}
-use Rattle.machine.specs.Acts.{Act, unlisted, indirect, negate, invert, back, finish, switch, rdch, wrch, dyadic, act_of, search}
+use Rattle.machine.specs.Acts.{Act, unlisted, indirect, negate, invert, back, finish, switch, rdch, wrch, dyadic, act_of, sought}
 use Rattle.machine.specs.Step.{Function, L, S, A, J, T, F, K, X, function_of}
 
 -- ---- registers and state
@@ -77,7 +77,7 @@ unfoldable pub switched : Registers → List ℕ → Out Registers
 switched r memory = do
   n ← read memory r.c
   default ← read memory (add r.c 1)
-  c ← search memory r.a default n (add r.c 2)
+  c ← sought memory r.a default n (add r.c 2)
   ok (with_c c r)
 
 unfoldable pub received : Registers → List ℕ → Registers

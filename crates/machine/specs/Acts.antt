@@ -51,18 +51,18 @@ combined f r = do
   ok (with_a v r)
 
 -- the address beside the first number equal to a among n pairs from i on, or the default
-unfoldable pub search : List ℕ → (a default n i : ℕ) → Out ℕ
-search memory a default zero i = ok default
-search memory a default (suc n) i = do
+unfoldable pub sought : List ℕ → (a default n i : ℕ) → Out ℕ
+sought memory a default zero i = ok default
+sought memory a default (suc n) i = do
   v ← read memory i
-  cond (eqb v a) (read memory (add i 1)) (search memory a default n (add i 2))
+  cond (eqb v a) (read memory (add i 1)) (sought memory a default n (add i 2))
 
 -- 23, switch: after it stand n, the default address, n pairs of number and address
 unfoldable pub switched : Registers → List ℕ → Out Registers
 switched r memory = do
   n ← read memory r.c
   default ← read memory (add r.c 1)
-  c ← search memory r.a default n (add r.c 2)
+  c ← sought memory r.a default n (add r.c 2)
   ok (with_c c r)
 
 -- 27: the next byte of the input, or -1 at the end

@@ -11,7 +11,7 @@ ghost use Rattle.machine.specs.Outcome.{Out, ok, read};
 ghost use Rattle.machine.specs.State.{at, start_registers, with_a, with_c, loaded, framed, having_stored};
 ghost use Rattle.machine.specs.Fetch.{fetch};
 ghost use Rattle.machine.specs.Forms.{fetched_at, fetched_from, decoded};
-ghost use Rattle.machine.specs.Acts.{act_of, indirected, returned, combined, search, switched, received, sent};
+ghost use Rattle.machine.specs.Acts.{act_of, indirected, returned, combined, sought, switched, received, sent};
 ghost use Rattle.machine.specs.Step.{result_of, stored, called, jumped, perform, function_of, execute, step};
 ghost use Rattle.machine.specs.Run.{steps, resume, allowed, run};
 ghost use Rattle.machine.specs.Answers.{as_word, as_quotient, as_fetched, as_acted, Steps, Ends, CarriesOn};
@@ -117,7 +117,7 @@ fn dyadic_act(n: u16, b: u16, a: u16) -> Word
 
 // The address beside the first number equal to a among n pairs from `from` on, or the default.
 fn switch_address(memory: &[u16], a: u16, default: u16, n: u16, from: u16) -> Word
-    ensures { result ≡ as_word (search memory.now a default n from) }
+    ensures { result ≡ as_word (sought memory.now a default n from) }
 {
     let mut i = from;
     let mut left = n;

@@ -1,5 +1,5 @@
 use Rattle.laws.proofs.Basics.{◌≡◌, refl, arith, needs}
-use Rattle.machine.specs.Acts.{search as searched}
+use Rattle.machine.specs.Acts.{sought as searched}
 use Rattle.machine.proofs.Laws.{switch-address-stops, switch-address-hits, switch-address-goes, switch-address-none}
 use Rattle.machine.proofs.switch_address.Tie as tie
 
