@@ -127,7 +127,7 @@ record MachineRuns : Type 0 where
   writes : (run 421 (made 4).memory [] (7 ∷ []) 100).state.out ≡ 65 ∷ []
 
 machine-runs : MachineRuns
-unfolding made value word_of M.read M.write fetch A.indirected A.returned A.combined A.search A.switched A.received A.sent S.keep S.stored S.called
+unfolding made value word_of M.read M.write fetch A.indirected A.returned A.combined A.sought A.switched A.received A.sent S.keep S.stored S.called
     S.jumped S.perform S.execute S.step steps resume
 machine-runs = record { stops = refl; counts = refl; writes = refl }
 

@@ -301,7 +301,7 @@ module _
   strings-coded : (at l : ℕ) (cs : List (List ℕ)) → AllCoded memory room env b.labels (λ n. refl) near len at (strings_code l cs)
   unfolding strings_code
   strings-coded at l [] = tt
-  strings-coded at l (c ∷ cs) = (tt, (tt, strings-coded _ (suc l) cs))
+  strings-coded at l (c ∷ cs) = (tt, (tt, strings-coded (at + size (label l) + size (string c)) (suc l) cs))
 
   -- the functions' code and the strings
   pub record Standing : Type 0 where
