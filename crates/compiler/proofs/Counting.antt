@@ -49,18 +49,20 @@ pub expression-items : {s : List ℕ} {at end : ℕ} (es : Expressions) → Hold
     → Items s end at (T.count es)
 unfolding encode_expressions T.count
 expression-items {at = at} T.no_expressions h e = no_item {from = at} (omega arith)
-expression-items (T.and_expression d es) h e = item-first (encode d) (encode_expressions es) h e (λ r q. expression-items es r q)
+expression-items {at = at} (T.and_expression d es) h e =
+    item-first (encode d) (encode_expressions es) h e (λ r q. expression-items {at = at + 2 + length (encode d)} es r q)
 
 pub repeat-items : {s : List ℕ} {at end : ℕ} (rs : Repeats) → Holds s at (encode_repeats rs) → end ≡ at + length (encode_repeats rs)
     → Items s end at (forms rs)
 unfolding encode_repeats forms
 repeat-items {at = at} T.no_repeats h e = no_item {from = at} (omega arith)
-repeat-items (T.repeat rs) h e = item-first [] (encode_repeats rs) h e (λ r q. repeat-items rs r q)
-repeat-items (T.repeat_on w d rs) h e = item-first (encode d) (encode_repeats rs) h e (λ r q. repeat-items rs r q)
+repeat-items {at = at} (T.repeat rs) h e = item-first [] (encode_repeats rs) h e (λ r q. repeat-items {at = at + 2 + length {A = ℕ} []} rs r q)
+repeat-items {at = at} (T.repeat_on w d rs) h e =
+    item-first (encode d) (encode_repeats rs) h e (λ r q. repeat-items {at = at + 2 + length (encode d)} rs r q)
 
 pub command-items : {s : List ℕ} {at end : ℕ} (text : List ℕ) (sc : Scope) (height : ℕ) (cs : Commands) → Holds s at (encode_commands cs)
     → end ≡ at + length (encode_commands cs) → Items s end at (commands_in (case_list text sc height cs))
 unfolding encode_commands case_list commands_in
 command-items {at = at} text sc height T.no_commands h e = no_item {from = at} (omega arith)
-command-items text sc height (T.and_command c cs) h e =
-    item-first (encode_command c) (encode_commands cs) h e (λ r q. command-items text sc height cs r q)
+command-items {at = at} text sc height (T.and_command c cs) h e =
+    item-first (encode_command c) (encode_commands cs) h e (λ r q. command-items {at = at + 2 + length (encode_command c)} text sc height cs r q)

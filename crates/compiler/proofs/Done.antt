@@ -17,12 +17,12 @@ use Rattle.compiler.proofs.Vocabulary.{Faulted, Means, Fresh, LeavesTo}
 pub least-then : (x : ℕ) (a b : List Fault) → least (least x a) b ≡ least x (a ++ b)
 unfolding least
 least-then x [] b = refl
-least-then x (f ∷ a) b = least-then _ a b
+least-then x (f ∷ a) b = least-then (cond (ltb (key f) x) (key f) x) a b
 
 pub greatest-then : (x : ℕ) (a b : List ℕ) → greatest (greatest x a) b ≡ greatest x (a ++ b)
 unfolding greatest
 greatest-then x [] b = refl
-greatest-then x (h ∷ a) b = greatest-then _ a b
+greatest-then x (h ∷ a) b = greatest-then (cond (ltb x h) h x) a b
 
 pub nil-left : {A : Type 0} (a b : List A) → a ++ b ≡ [] → a ≡ []
 nil-left [] b e = refl

@@ -3,7 +3,7 @@ use Rattle.laws.proofs.Basics.{ℕ, ◌+◌, ◌-◌, ◌/◌, ◌%◌, ◌^◌,
 use Rattle.laws.proofs.Basics.{true, false, cond, length, get_or, set, replicate, length-set, length-replicate, eqb, arith, eqb-true, eqb-false}
 use Rattle.laws.proofs.Cases.{by_cases}
 use Rattle.language.specs.Tree as T
-use Rattle.compiler.proofs.Language.{Label, Commands, Scope, fault, Judged, good, refused, judge, judged_word, CaseLabel, has_case, has_default}
+use Rattle.compiler.proofs.Language.{doubled_label, Label, Commands, Scope, fault, Judged, good, refused, judge, judged_word, CaseLabel, has_case, has_default}
 use Rattle.compiler.proofs.Language.{labels_before, labels_of, good_case, doubled_case, doubled}
 use Rattle.language.specs.Resolved as R
 use Rattle.compiler.proofs.Vocabulary.{State, Node, NodeAt, Did, Faulted, Verdict, label_faults, ReadyLabels, JudgesLabels}
@@ -14,8 +14,8 @@ use Rattle.compiler.specs.Labels.{a_case, a_default, NextItem, LabelAt, CommandA
 use Rattle.compiler.specs.Labels.{JudgesCommand, faults_among}
 use Rattle.compiler.proofs.Common.{did_none, did_then, did-as, same_refl}
 use Rattle.compiler.proofs.Flags.{flag-none, flag-free, flag-here, flag-other, flag-taken, flag-beyond}
-use Rattle.compiler.proofs.Judging.{judged-word}
-use Rattle.compiler.proofs.Rows.{Left, left-all, left-next, left_end}
+use Rattle.compiler.proofs.Judging.{judged-word, of-verdict}
+use Rattle.compiler.proofs.Rows.{Left, left-all, left-next, left_end, of-label}
 use Rattle.compiler.proofs.Switching.{list_of, own-labels}
 
 -- ---- one label more
@@ -117,12 +117,12 @@ note-none {i} {seen = seen} l = record {
 module _ (text : List ℕ) {s : List ℕ} {end : ℕ} (top : ℕ) (st r : State) (n : Node) (nd : NodeAt s end n) where
   pub label-default : {seen seen' : List ℕ} → (n.kind ≡ 28 → ⊥) → Notes 65536 n.place seen seen' st r → JudgesLabel text s end top seen seen' st r
   unfolding labels_of
-  label-default q w = record {
-    by = λ sc before l sh. elim [
-      | a_case a e h en f ↦ λ m. absurd (q (nd.kind ∙ a))
-      | a_default {place = p} a e ↦ λ m. let z : n.place ≡ p = nd.place ∙ e in
-          record { marks = rw (labels-then text sc before (T.default p ∷ [])) (default-marks w m); did = λ t. rw z at (default-did w m t) }
-    ];
+  label-default {seen = seen} {seen' = seen'} q w = record {
+    by = λ sc before l sh. of-label (λ l. Marks seen (labels_of text sc before)
+        → Marked text sc (before ++ (l ∷ [])) (doubled_label text sc (labels_of text sc before) l) seen' st r)
+        (λ p lo c a e h en f m. absurd (q (nd.kind ∙ a)))
+        (λ p a e m. let z : n.place ≡ p = nd.place ∙ e in
+        record { marks = rw (labels-then text sc before (T.default p ∷ [])) (default-marks w m); did = λ t. rw z at (default-did w m t) }) l;
   }
 
   -- a CASE, by what its constant is judged
@@ -133,26 +133,27 @@ module _ (text : List ℕ) {s : List ℕ} {end : ℕ} (top : ℕ) (st r : State)
 
     case-by : {seen seen' : List ℕ} → By seen seen' → JudgesLabel text s end top seen seen' st r
     unfolding labels_of
-    case-by f = record {
-      by = λ sc before l sh. elim [
-        | a_case {place = p} {lo} {c} a e i en fine ↦ λ m. let says = g.by sc lo c sh fine i (nd.inner ∙ en) in
-            let d = f p (labels_of text sc before) (judge text sc c) says e (judged-word text sc c sh fine) m in
-            record { marks = rw (labels-then text sc before (T.case p c ∷ [])) d.0; did = d.1 }
-        | a_default a e ↦ λ m. absurd (omega arith)
-      ];
+    case-by {seen = seen} {seen' = seen'} f = record {
+      by = λ sc before l sh. of-label (λ l. Marks seen (labels_of text sc before)
+          → Marked text sc (before ++ (l ∷ [])) (doubled_label text sc (labels_of text sc before) l) seen' st r)
+          (λ p lo c a e i en fine m. let says = g.by sc lo c sh fine i (nd.inner ∙ en) in
+          let d = f p (labels_of text sc before) (judge text sc c) says e (judged-word text sc c sh fine) m in
+          record { marks = rw (labels-then text sc before (T.case p c ∷ [])) d.0; did = d.1 })
+          (λ p a e m. absurd (omega arith)) l;
     }
 
     pub label-refused : {seen : List ℕ} → (j.number ≡ 0 → ⊥) → Blames j st r → JudgesLabel text s end top seen seen st r
-    label-refused z b = case-by (λ p ls x. elim [
-      | says_good w ↦ λ e low m. absurd (z w)
-      | says_refused a k w ↦ λ e low m. (rw (append-nil ls) m, b.by (refused _) (says_refused a k w))
-    ])
+    label-refused {seen} z b = case-by (λ p ls x. of-verdict
+        (λ x. get_or s (end - 2) 0 ≡ p → judged_word x < 65536 → Marks seen ls
+        → Marks seen (ls ++ good_case x []) × ((t : List ℕ) → Did (doubled_case p x ls) nothing 0 t t st r))
+        (λ w e low m. absurd (z w)) (λ number a k w e low m. (rw (append-nil ls) m, b.by (refused _) (says_refused a k w))) x)
 
     pub label-case : {seen seen' : List ℕ} → j.number ≡ 0 → Notes j.word n.place seen seen' st r → JudgesLabel text s end top seen seen' st r
-    label-case z w = case-by (λ p ls x. elim [
-      | says_good k ↦ λ e low m. (case-marks w low m, λ t. rw (nd.place ∙ e) at (case-did w low m t))
-      | says_refused a k u ↦ λ e low m. absurd (k (sym a ∙ z))
-    ])
+    label-case {seen} {seen'} z w = case-by (λ p ls x. of-verdict
+        (λ x. get_or s (end - 2) 0 ≡ p → judged_word x < 65536 → Marks seen ls
+        → Marks seen' (ls ++ good_case x []) × ((t : List ℕ) → Did (doubled_case p x ls) nothing 0 t t st r))
+        (λ k e low m. (case-marks w low m, λ t. rw (nd.place ∙ e) at (case-did w low m t)))
+        (λ number a k u e low m. absurd (k (sym a ∙ z))) x)
 
 -- ---- all labels of a command, and of all commands
 

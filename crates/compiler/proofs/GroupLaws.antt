@@ -101,7 +101,8 @@ function-items : {s : List ℕ} {at end : ℕ} (fs : List Function) → Holds s 
     → Items s end at (length fs)
 unfolding encode_functions
 function-items {at = at} [] h e = no_item {from = at} (omega arith)
-function-items (f ∷ fs) h e = item-first (encode_function f) (encode_functions fs) h e (λ r q. function-items fs r q)
+function-items {at = at} (f ∷ fs) h e =
+    item-first (encode_function f) (encode_functions fs) h e (λ r q. function-items {at = at + 2 + length (encode_function f)} fs r q)
 
 pub count-end : {s : List ℕ} {from end at n : ℕ} → end ≤ at → Counting s from end at n → CountsGroup s from end n
 count-end l q = record { by = λ fs h e. (C.count-end l q).by (length fs) (function-items fs h e) }

@@ -4,11 +4,11 @@ use Rattle.laws.proofs.Basics.{false, cond, length, get_or, length-append, leb, 
 use Rattle.words.specs.Words.{word}
 use Rattle.language.specs.Tree as T
 use Rattle.compiler.proofs.Language.{Name, Simple, Constant, expressions_depth, Scope, lookup, fault, Judged, good, refused, judge, for_vector}
-use Rattle.compiler.proofs.Language.{judged_word, signed, of_found, of_simple, within, declare_all, encode_name, encode_names, encode_constant}
+use Rattle.compiler.proofs.Language.{judged_word, faults_of, signed, of_found, of_simple, within, declare_all, encode_name, encode_names, encode_constant}
 use Rattle.compiler.proofs.Language.{encode_positive, encode_negative, encode_expressions, FineName, FineNames, FineConstant}
 use Rattle.language.specs.Names as N
 use Rattle.code.specs.Generate as G
-use Rattle.compiler.proofs.Vocabulary.{Shows, Looked, code, found, name_at, State, Here, Node, FineEs, NodeAt, Emits, Faulted, Holds, ReadyArgs}
+use Rattle.compiler.proofs.Vocabulary.{Shows, Did, Looked, code, found, name_at, State, Here, Node, FineEs, NodeAt, Emits, Faulted, Holds, ReadyArgs}
 use Rattle.compiler.proofs.Vocabulary.{GaveArgs, Verdict, ReadyNames, Declares}
 use Rattle.compiler.proofs.Common.{ready-names, keeps-all, keeps_then, keeps-shows, name-there, means-unknown, means-manifest, Held}
 use Rattle.compiler.proofs.Common.{looked-word, did_none, did_then, did-emit, did-as, same_refl, code_is, keeps-lies, kid, ends, value-is}
@@ -176,11 +176,21 @@ module _ (most : ℕ) {text s : List ℕ} {end top : ℕ} {j : Verdict} (g : Jud
     by = λ sc lo c sh fine h en. within-passes c (λ v. leb v most) (judge text sc c) (λ q. le-leb j.word most l) (g.by sc lo c sh fine h en);
   }
 
+-- what is shown of a constant by what is said of it
+pub of-verdict : {j : Verdict} (P : Judged → Type 0) → (j.number ≡ 0 → P (good j.word))
+    → ((number : ℕ) → j.number ≡ number → (number ≡ 0 → ⊥) → j.word ≡ 0 → P (refused (fault j.place number))) → (x : Judged) → Says j x → P x
+of-verdict P f g (good v) (says_good q) = f q
+of-verdict P f g (refused fs) (says_refused {number = number} a b w) = g number a b w
+
 pub blame-none : {j : Verdict} {st : State} → j.number ≡ 0 → Blames j st st
-blame-none e = record { by = λ x. elim [ says_good q ↦ λ t. did_none 0 | says_refused a b w ↦ λ t. absurd (b (sym a ∙ e)) ] }
+blame-none {st = st} e = record {
+  by = of-verdict (λ x. (t : List ℕ) → Did (faults_of x) nothing 0 t t st st) (λ q t. did_none 0) (λ number a b w t. absurd (b (sym a ∙ e)));
+}
 
 pub blame-some : {j : Verdict} {st r : State} → (j.number ≡ 0 → ⊥) → Faulted j.place j.number st r → Blames j st r
-blame-some n f = record { by = λ x. elim [ says_good q ↦ λ t. absurd (n q) | says_refused a b w ↦ λ t. rw a at (f.by nothing t) ] }
+blame-some {st = st} {r = r} n f = record {
+  by = of-verdict (λ x. (t : List ℕ) → Did (faults_of x) nothing 0 t t st r) (λ q t. absurd (n q)) (λ number a b w t. rw a at (f.by nothing t));
+}
 
 pub says-word : {j : Verdict} (x : Judged) → Says j x → j.word ≡ judged_word x
 says-word (good v) (says_good q) = refl

@@ -4,7 +4,7 @@ use Rattle.laws.proofs.Basics.{length-append, eqb, leb, arith, eq-eqb, ne_eqb, l
 use Rattle.laws.proofs.Cases.{by_cases}
 use Rattle.language.specs.Kinds as K
 use Rattle.language.specs.Tree as T
-use Rattle.compiler.proofs.Language.{Item, Function, Declaration, Scope, lookup, Fault, Judged, judge, within, judged_word, FineDeclaration}
+use Rattle.compiler.proofs.Language.{Item, Function, Declaration, Scope, declared, global, manifest, lookup, Fault, Judged, judge, within, judged_word, FineDeclaration}
 use Rattle.compiler.proofs.Language.{declaration_depth, functions_depth, encode_name, encode_constant, encode_items, encode_functions}
 use Rattle.language.specs.Constants as J
 use Rattle.language.specs.Program.{Walk, start_of, with_function, resolved, globals_after, manifests_after, functions_after, declared_by, group_name_faults}
@@ -36,12 +36,12 @@ word_small c (J.refused fs) = omega arith
 small-globals : (text : List ℕ) (sc : Scope) (is : List Item) → Small sc → Small (globals_after text sc is)
 unfolding globals_after Small
 small-globals text sc [] h = h
-small-globals text sc (i ∷ is) h = small-globals text _ is (word_small i.constant (judge text sc i.constant), h)
+small-globals text sc (i ∷ is) h = small-globals text (declared sc i.name (global (judged_word (J.for_global text sc i.constant)))) is (word_small i.constant (judge text sc i.constant), h)
 
 small-manifests : (text : List ℕ) (sc : Scope) (is : List Item) → Small sc → Small (manifests_after text sc is)
 unfolding manifests_after Small
 small-manifests text sc [] h = h
-small-manifests text sc (i ∷ is) h = small-manifests text _ is h
+small-manifests text sc (i ∷ is) h = small-manifests text (declared sc i.name (manifest (judged_word (judge text sc i.constant)))) is h
 
 small-functions : (text : List ℕ) (k : ℕ) (sc : Scope) (fs : List Function) → Small sc → Small (functions_after text k sc fs)
 unfolding functions_after

@@ -33,6 +33,11 @@ in-loops : (n k a b : ℕ) (x : Exits) → G.in_loop a b (innermost n k x) ≡ G
 in-loops n zero a b x = refl
 in-loops n (suc k) a b x = refl
 
+-- a loop's code behind the labels before it, with its first label among them
+regrouped : (tops : List I.Item) (l : I.Item) (body : List I.Item) (j : I.Item) (test end more : List I.Item)
+    → tops ++ ((l ∷ (body ++ (j ∷ (test ++ end)))) ++ more) ≡ (tops ++ (l ∷ [])) ++ (body ++ (j ∷ (test ++ (end ++ more))))
+regrouped tops l body j test end more = simp append_assoc
+
 module _ (text : List ℕ) (sc : Scope) (strings h : ℕ) where
   abbrev Whole : (n k N own m : ℕ) → Exits → Cmd → Repeats → List I.Item
   Whole n k N own m x c rs = tops_code n k ++ (cmd_code strings h N (innermost n k x) c ++ forms_code text sc strings h own rs m)
@@ -48,13 +53,15 @@ module _ (text : List ℕ) (sc : Scope) (strings h : ℕ) where
       let a = append_assoc (tops_code n k) (I.label M ∷ []) (C ++ (I.label (M + 1) ∷ G.JL M ∷ I.label (M + 2) ∷ F)) in
       cc (i, in-loops n k (M + 1) (M + 2) x, append_assoc C tail F, a, tops-snoc n k)
   repeats-code (T.repeat_on w e rs) c n N own m x en eo em =
-      let k = forms rs in let M = n + 3 * k in let q : M + 3 ≡ N = omega arith in let p : own ≡ M = omega arith in let E = expression text sc h e in
-      let b = eqb w 21 in let r : M + (3 + cmd_labels c + expr_labels E) ≡ m + expr_labels E = omega arith in let r' : M + 3 + cmd_labels c
-      ≡ m = omega arith in let C = cmd_code strings h N (G.in_loop (M + 1) (M + 2) x) c in let X = expr_code strings h m E in let end = G.jump_when b M
-      ∷ I.label (M + 2) ∷ [] in let F = forms_code text sc strings h (M - 3) rs (m + expr_labels E) in
-      let i = repeats-code rs (R.repeat_while b c E) n M (M - 3) (m + expr_labels E) x refl refl (sym r) in
-      let a = append_assoc (tops_code n k) (I.label M ∷ []) (C ++ (I.label (M + 1) ∷ (X ++ (G.jump_when b M ∷ I.label (M + 2) ∷ F)))) in
-      cc (i, in-loops n k (M + 1) (M + 2) x, append_assoc C (I.label (M + 1) ∷ (X ++ end)) F, append_assoc X end F, a, tops-snoc n k)
+      let k = forms rs in let M = n + 3 * k in let q : N ≡ M + 3 = omega arith in let p : own ≡ M = omega arith in let E = expression text sc h e in
+      let b = eqb w 21 in let l = M + 3 + cmd_labels c in let r : m ≡ l = omega arith in
+      let r' : M + (3 + cmd_labels c + expr_labels E) ≡ m + expr_labels E = omega arith in let end = G.jump_when b M ∷ I.label (M + 2) ∷ [] in
+      let F = forms_code text sc strings h (M - 3) rs (m + expr_labels E) in let X = I.label (M + 1) ∷ (expr_code strings h l E ++ end) in
+      let inner = G.in_loop (M + 1) (M + 2) x in
+      repeats-code rs (R.repeat_while b c E) n M (M - 3) (m + expr_labels E) x refl refl (sym r')
+      ∙ ap (λ (y : Exits). tops_code n k ++ ((I.label M ∷ (cmd_code strings h (M + 3) y c ++ X)) ++ F)) (in-loops n k (M + 1) (M + 2) x)
+      ∙ regrouped (tops_code n k) (I.label M) (cmd_code strings h (M + 3) inner c) (I.label (M + 1)) (expr_code strings h l E) end F
+      ∙ rw (q, p, r, ← tops-snoc n k)
 
 pub repeats-heights : (text : List ℕ) (sc : Scope) (h : ℕ) (rs : Repeats) (c : Cmd)
     → of_cmd h (repeats text sc h c rs) ≡ of_cmd h c ++ forms_heights text sc h rs

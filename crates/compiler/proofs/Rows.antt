@@ -2,6 +2,7 @@
 use Rattle.laws.proofs.Basics.{ℕ, ◌+◌, ◌-◌, ◌^◌, ◌<◌, ◌≤◌, ◌≡◌, refl, sym, ap, ◌∙◌, List, [], ◌∷◌, ◌++◌, append-nil, Bool, true, false, cond, some}
 use Rattle.laws.proofs.Basics.{none, length, get_or, length-append, eqb, arith, eq-eqb, ne_eqb}
 use Rattle.language.specs.Tree as T
+use Rattle.language.specs.Kinds as K
 use Rattle.compiler.proofs.Language.{Simple, Constant, Label, Scope, fault, judge, faults_of, misplaced, FineConstant, FineLabels, closed}
 use Rattle.compiler.proofs.Language.{encode_name, encode_constant, encode_positive, encode_negative, encode_by, encode_labels}
 use Rattle.compiler.proofs.Vocabulary.{Shows, State, Node, NodeAt, Did, Faulted, Holds, Verdict, JudgesBy, by_judged, ReadyMisplaced, Misplaces}
@@ -99,9 +100,18 @@ pub labels-row : {s : List ℕ} {at end : ℕ} (ls : List Label) → FineLabels 
 unfolding encode_labels FineLabels
 labels-row {at = at} [] f h e = no_more {at = at} (omega arith)
 labels-row {s} {at} (T.case p c ∷ ls) f h e = an_item_lem (closed (encode_constant c) 0 p 28) (encode_labels ls) h e (λ z lies more en. and_more {at = at}
-    (omega arith) (case_at p c f.0 lies z) (labels-row ls f.1 more en))
+    (omega arith) (case_at p c f.0 lies z) (labels-row {at = at + 2 + get_or s at 0} ls f.1 more en))
 labels-row {s} {at} (T.default p ∷ ls) f h e = an_item_lem (closed [] 0 p 29) (encode_labels ls) h e (λ z lies more en. and_more {at = at} (omega arith)
-    (default-at p lies z) (labels-row ls f more en))
+    (default-at p lies z) (labels-row {at = at + 2 + get_or s at 0} ls f more en))
+
+-- what is shown of a label by its form
+pub of-label : {s : List ℕ} {end : ℕ} (P : Label → Type 0)
+    → ((place lo : ℕ) (c : Constant) → get_or s (end - 1) 0 ≡ K.CASE → get_or s (end - 2) 0 ≡ place → Holds s lo (encode_constant c)
+    → end - 4 ≡ lo + length (encode_constant c) → FineConstant c → P (T.case place c))
+    → ((place : ℕ) → get_or s (end - 1) 0 ≡ K.DEFAULT → get_or s (end - 2) 0 ≡ place → P (T.default place))
+    → (l : Label) → LabelAt s end l → P l
+of-label P f g (T.case p c) (a_case {place = place} {lo = lo} a e h en k) = f p lo c a e h en k
+of-label P f g (T.default p) (a_default a e) = g p a e
 
 -- ---- a label before no command of a list
 
@@ -112,17 +122,18 @@ twelve nd w e t = rw (nd.place ∙ e) at (w.by nothing t)
 module _ (text : List ℕ) {s : List ℕ} {end top : ℕ} {st : State} (n : Node) (nd : NodeAt s end n) {a : State} (w : Faulted n.place 12 st a) where
   pub misplaced-default : (n.kind ≡ 28 → ⊥) → MisplacesLabel text s end top st a
   unfolding misplaced
-  misplaced-default q = record { by = λ sc l sh. elim [ a_case k e h en f ↦ λ t. absurd (q (nd.kind ∙ k)) | a_default k e ↦ λ t. twelve nd w e t ] }
+  misplaced-default q = record {
+    by = λ sc l sh. of-label (λ l. (t : List ℕ) → Did (misplaced text sc (l ∷ [])) nothing 0 t t st a) (λ p lo c k e h en f t. absurd (q (nd.kind ∙ k)))
+        (λ p k e t. twelve nd w e t) l;
+  }
 
   pub misplaced-case : {j : Verdict} {r : State} → n.kind ≡ 28 → Judges text s n.inner top j → Blames j a r → MisplacesLabel text s end top st r
   unfolding misplaced
-  misplaced-case q g b = record {
-    by = λ sc l sh. elim [
-      | a_case {lo = lo} {c = c} k e h en f ↦ λ t. did-as nothing 0
-          (did_then (twelve nd w e t) (b.by (judge text sc c) (g.by sc lo c sh f h (nd.inner ∙ en)) t)) (same-eq (sym (append-nil _)))
-          (λ v z. refl) (omega arith)
-      | a_default k e ↦ λ t. absurd (omega arith)
-    ];
+  misplaced-case {r = r} q g b = record {
+    by = λ sc l sh. of-label (λ l. (t : List ℕ) → Did (misplaced text sc (l ∷ [])) nothing 0 t t st r)
+        (λ p lo c k e h en f t. did-as nothing 0
+        (did_then (twelve nd w e t) (b.by (judge text sc c) (g.by sc lo c sh f h (nd.inner ∙ en)) t)) (same-eq (sym (append-nil _))) (λ v z. refl) (omega arith))
+        (λ p k e t. absurd (omega arith)) l;
   }
 
 misplaced-then : (text : List ℕ) (sc : Scope) (l : Label) (ls : List Label)

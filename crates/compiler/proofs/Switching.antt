@@ -19,7 +19,7 @@ use Rattle.compiler.specs.Labels.{WritesPair, WritesPairs, WritesAll}
 use Rattle.compiler.proofs.Common.{emits_none, emits_then, nil-left, nil-right}
 use Rattle.compiler.proofs.Labelled.{is-labelled, is-bare}
 use Rattle.compiler.proofs.Judging.{of-found}
-use Rattle.compiler.proofs.Rows.{Left, left-all, left-next, left_end, an_item_lem, labels-row}
+use Rattle.compiler.proofs.Rows.{Left, left-all, left-next, left_end, an_item_lem, of-label, labels-row}
 
 -- ---- the labels of a command
 
@@ -53,8 +53,8 @@ pub commands-row : {s : List ℕ} {at end : ℕ} (cs : Commands) → FineCs cs �
     → Row (CommandAt s) s end at (marks cs)
 unfolding encode_commands FineCommands marks
 commands-row {at = at} T.no_commands f h e = no_more {at = at} (omega arith)
-commands-row {at = at} (T.and_command c cs) f h e = an_item_lem (encode_command c) (encode_commands cs) h e
-    (λ z lies more en. and_more {at = at} (omega arith) (command-at c f.0 lies z) (commands-row cs f.1 more en))
+commands-row {s} {at} (T.and_command c cs) f h e = an_item_lem (encode_command c) (encode_commands cs) h e
+    (λ z lies more en. and_more {at = at} (omega arith) (command-at c f.0 lies z) (commands-row {at = at + 2 + get_or s at 0} cs f.1 more en))
 
 abbrev pub list_of : {s : List ℕ} {from end top : ℕ} → ReadyLabels s from end top → Listed (CommandAt s) s from end top
 list_of y = record
@@ -114,11 +114,14 @@ module _ {A : Type 0} (K : Holding A) where
 pub one-case-is : {s : List ℕ} {end i k : ℕ} → i ≡ end - 1 → k ≡ get_or s i 0 → k ≡ 28 → CountsLabel s end 1
 unfolding case_items
 one-case-is {s} {end} ei ek q = let z : get_or s (end - 1) 0 ≡ 28 = cc in
-    record { few = omega arith; by = λ l. elim [ a_case a e h en f ↦ refl | a_default a e ↦ absurd (omega arith) ] }
+    record { few = omega arith; by = of-label (λ l. 1 ≡ case_items (l ∷ [])) (λ p lo c a e h en f. refl) (λ p a e. absurd (omega arith)) }
 
 pub one-case-not : {s : List ℕ} {end i k : ℕ} → i ≡ end - 1 → k ≡ get_or s i 0 → (k ≡ 28 → ⊥) → CountsLabel s end 0
 unfolding case_items
-one-case-not ei ek q = record { few = omega arith; by = λ l. elim [ a_case a e h en f ↦ absurd (q (rw (ek, ei, a))) | a_default a e ↦ refl ] }
+one-case-not ei ek q = record {
+  few = omega arith;
+  by = of-label (λ l. 0 ≡ case_items (l ∷ [])) (λ p lo c a e h en f. absurd (q (rw (ek, ei, a)))) (λ p a e. refl);
+}
 
 -- ---- DEFAULT among labels, and its command
 
@@ -217,21 +220,21 @@ says_is (says_refused a b w) e = contradiction cc
 module _ (text : List ℕ) {s : List ℕ} {end top : ℕ} (n : Node) (nd : NodeAt s end n) where
   pub pair-not : {k : ℕ} {t : List ℕ} {st : State} → (n.kind ≡ 28 → ⊥) → WritesPair text s end top k t t st st
   unfolding labels_of G.pairs_of
-  pair-not q = record {
+  pair-not {k = k} {t = t} {st = st} q = record {
     still = still-here;
-    by = λ sc l sh. elim [ a_case a e h en f ↦ λ so. absurd (q (nd.kind ∙ a)) | a_default a e ↦ λ so. emits_none ];
+    by = λ sc l sh. of-label (λ l. Sound text sc (l ∷ []) → Emits (G.pairs_of k (labels_of text sc (l ∷ []))) [] t t st st)
+        (λ p lo c a e h en f so. absurd (q (nd.kind ∙ a))) (λ p a e so. emits_none) l;
   }
 
   pub pair_is : {k : ℕ} {t t₁ t₂ : List ℕ} {st a r : State} {j : Verdict} → n.kind ≡ 28 → Judges text s n.inner top j
       → Emits (G.D j.word ∷ []) [] t t₁ st a → Emits (G.DL k ∷ []) [] t₁ t₂ a r → WritesPair text s end top k t t₂ st r
   unfolding labels_of G.pairs_of
-  pair_is q g d e = record {
+  pair_is {k = k} {t = t} {t₂ = t₂} {st = st} {r = r} q g d e = record {
     still = still-then (emits-still d) (emits-still e);
-    by = λ sc l sh. elim [
-      | a_case {lo = lo} {c = c} a z h en f ↦ λ so. let w = first_good so in
-          emits-as (emits_then d e) (sym (rw (says_is (g.by sc lo c sh f h (nd.inner ∙ en)) w.is)))
-      | a_default a z ↦ λ so. absurd (omega arith)
-    ];
+    by = λ sc l sh. of-label (λ l. Sound text sc (l ∷ []) → Emits (G.pairs_of k (labels_of text sc (l ∷ []))) [] t t₂ st r)
+        (λ p lo c a z h en f so. let w = first_good so in
+        emits-as (emits_then d e) (sym (rw (says_is (g.by sc lo c sh f h (nd.inner ∙ en)) w.is))))
+        (λ p a z so. absurd (omega arith)) l;
   }
 
 module _ (text : List ℕ) {s : List ℕ} {from end top : ℕ} (k : ℕ) (t₀ : List ℕ) (st₀ : State) where
