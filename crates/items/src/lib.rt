@@ -3,6 +3,8 @@
 // `start_in` finds where the items begin and `next_in` reads one of them; both look at any place of any bytes. Below
 // them each function reads one part, and answers with the part and the place past it. A place past the end has the
 // byte 256, as in the definitions.
+#![tactic(auto)]
+
 ghost use Rattle.std.specs.Prelude.{◌+◌, ◌-◌, ◌*◌, ◌≤◌, ◌≡◌, false, cond, eqb, drop};
 ghost use Rattle.items.specs.Item.{capped};
 ghost use Rattle.items.specs.Reader.{head, is_digit, decimal};
