@@ -18,21 +18,21 @@ ghost use Rattle.items.specs.Parts.{is_got, as_decimal, as_operand_at, as_based,
 use text::Quoted;
 
 // A number as it is written, with a minus or not; or a label.
-#[derive(Drop)]
+#[derive(Clone, Copy, Drop)]
 pub enum Operand {
     Number(bool, u32),
     Address(u32),
 }
 
 // What is added to an operand.
-#[derive(Drop)]
+#[derive(Clone, Copy, Drop)]
 pub enum Base {
     Plain,
     P,
     G,
 }
 
-#[derive(Drop)]
+#[derive(Clone, Copy, Drop)]
 pub enum Item {
     // n:
     Label(u32),
