@@ -3,31 +3,23 @@ use Rattle.assembler.proofs.Assembling.{gives-fault, placed-fits, gives-image, g
 use Rattle.assembler.proofs.assemble_from.Tie as tie
 
 write-items-requires : tie.Need-write_items-written-requires
-write-items-requires c κs = let w = c in
-    let s = w in
-    placed-fits s.args.text.now s.args.memory.now s.args.labels.now _
-    w.lay_out-layout.ensures w.in-Placed.is
-    (omega arith) w.write_start.ensures
+write-items-requires c κs = placed-fits c.args.text.now c.args.memory.now c.args.labels.now _
+    c.lay_out-layout.ensures c.in-Placed.is
+    (omega arith) c.write_start.ensures
 
 cast-t33 : tie.Need-overflow_cast-result
-cast-t33 c = let m = c in
-    omega (arith, m.lay_out-layout.ensures.fits _ m.in-Placed.is)
+cast-t33 c = omega (arith, c.lay_out-layout.ensures.fits _ c.in-Placed.is)
 
 returns-2 : tie.Need-returns-in-Unknown
-returns-2 c = let v = c in
-    let w = v in
-    let s = w in
-    gives-unknown s.args.text.now s.args.memory.now s.args.labels.now _
-    w.lay_out-layout.ensures w.in-Placed.is
-    (omega (arith, s.requires.least)) w.write_start.ensures
-    v.write_items-written.ensures v.in-Unknown.is c.refuse-in-Unknown.ensures
+returns-2 c = gives-unknown c.args.text.now c.args.memory.now c.args.labels.now _
+    c.lay_out-layout.ensures c.in-Placed.is
+    (omega (arith, c.requires.least)) c.write_start.ensures
+    c.write_items-written.ensures c.in-Unknown.is c.refuse-in-Unknown.ensures
 
 returns-3 : tie.Need-returns-in-Whole
-returns-3 c = let w = c in
-    let s = w in
-    gives-image s.args.text.now s.args.memory.now s.args.labels.now _
-    w.lay_out-layout.ensures w.in-Placed.is
-    (omega arith) w.write_start.ensures c.write_items-written.ensures c.in-Whole.is
+returns-3 c = gives-image c.args.text.now c.args.memory.now c.args.labels.now _
+    c.lay_out-layout.ensures c.in-Placed.is
+    (omega arith) c.write_start.ensures c.write_items-written.ensures c.in-Whole.is
 
 pub assemble_from_spec : {M : Type 1} → Rattle.assembler.proofs.assemble_from.Statement.statement M
 assemble_from_spec = tie.close

@@ -5,10 +5,9 @@ use Rattle.assembler.proofs.assemble_keys.Tie as tie
 
 assemble-from-requires : tie.Need-assemble_from-requires
 assemble-from-requires c κs =
-    let tested = c in let cleared = tested in
-    let blank = cleared in let args = blank.args in
-    is-ready args.text.now args.memory.now args.labels.now blank.clear_words.ensures cleared.clear_labels.ensures
-    tested.if-memory-lt512.false tested.if-memory-gt32768.false
+    let args = c.args in
+    is-ready args.text.now args.memory.now args.labels.now c.clear_words.ensures c.clear_labels.ensures
+    c.if-memory-lt512.false c.if-memory-gt32768.false
 
 pub assemble_keys_spec : {M : Type 1} → Rattle.assembler.proofs.assemble_keys.Statement.statement M
 assemble_keys_spec = tie.close

@@ -13,37 +13,31 @@ abbrev decreases-loop : tie.decreases-loop-first
 decreases-loop text from memory labels₀ index₀ room place₀ at₀ count₀ labels index place at count = length text - place
 
 returns-3 : tie.Need-returns-then-number-ne0 invariant-loop decreases-loop
-returns-3 c = let read = c in let called = read in
-    let one = reads-one _ _ called.next_in-next.ensures read.in-One.is in
-    laying-fault _ _ _ _ _ _ _ _ _ called.loop-first.invariant one c.fault-number.ensures c.if-number-ne0.true
+returns-3 c = let one = reads-one _ _ c.next_in-next.ensures c.in-One.is in
+    laying-fault _ _ _ _ _ _ _ _ _ c.loop-first.invariant one c.fault-number.ensures c.if-number-ne0.true
 
 note-requires : tie.Need-note-count-requires invariant-loop decreases-loop
-note-requires c κs = let x = c in let read = x in let called = read in
-    let one = reads-one _ _ called.next_in-next.ensures read.in-One.is in
-    laying-notable _ _ _ _ _ _ _ _ _ called.loop-first.invariant one x.fault-number.ensures x.if-number-ne0.false (omega arith)
+note-requires c κs = let one = reads-one _ _ c.next_in-next.ensures c.in-One.is in
+    laying-notable _ _ _ _ _ _ _ _ _ c.loop-first.invariant one c.fault-number.ensures c.if-number-ne0.false (omega arith)
 
 size-requires : tie.Need-size-at-requires invariant-loop decreases-loop
 size-requires c κs =
-    let x = c in let read = x in let called = read in
-    let one = reads-one _ _ called.next_in-next.ensures read.in-One.is in
-    laying-in-range _ _ _ _ _ _ _ _ _ called.loop-first.invariant one x.fault-number.ensures x.if-number-ne0.false
+    let one = reads-one _ _ c.next_in-next.ensures c.in-One.is in
+    laying-in-range _ _ _ _ _ _ _ _ _ c.loop-first.invariant one c.fault-number.ensures c.if-number-ne0.false
 
 add_at : tie.Need-overflow_add-at invariant-loop decreases-loop
 add_at c =
-    let x = c in let read = x in let called = read in
-    let one = reads-one _ _ called.next_in-next.ensures read.in-One.is in
-    let fits = laying-size _ _ _ _ _ _ _ _ _ called.loop-first.invariant one x.fault-number.ensures x.if-number-ne0.false c.size-at.ensures in
+    let one = reads-one _ _ c.next_in-next.ensures c.in-One.is in
+    let fits = laying-size _ _ _ _ _ _ _ _ _ c.loop-first.invariant one c.fault-number.ensures c.if-number-ne0.false c.size-at.ensures in
     omega (arith, fits)
 
 loop-less : tie.Need-loop-first-smaller invariant-loop decreases-loop
-loop-less c = let x = c in let read = x in
-    let one = reads-one _ _ read.next_in-next.ensures read.in-One.is in
+loop-less c = let one = reads-one _ _ c.next_in-next.ensures c.in-One.is in
     omega (arith, one.onward, one.within)
 
 loop-again : tie.Need-loop-first-preserved invariant-loop decreases-loop
-loop-again c = let noted = c in let x = noted in let read = x in
-    let called = read in let one = reads-one _ _ called.next_in-next.ensures read.in-One.is in
-    laying-on _ _ _ _ _ _ _ _ _ called.loop-first.invariant one x.fault-number.ensures x.if-number-ne0.false noted.note-count.ensures c.size-at.ensures
+loop-again c = let one = reads-one _ _ c.next_in-next.ensures c.in-One.is in
+    laying-on _ _ _ _ _ _ _ _ _ c.loop-first.invariant one c.fault-number.ensures c.if-number-ne0.false c.note-count.ensures c.size-at.ensures
 
 pub lay_out_spec : {M : Type 1} → Rattle.assembler.proofs.lay_out.Statement.statement M
 lay_out_spec = tie.close

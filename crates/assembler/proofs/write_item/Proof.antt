@@ -16,14 +16,14 @@ add-write-string c = omega (arith, (c.requires.1.spelled _ c.in-String.is).2)
 
 cast-write-string : tie.Need-overflow_cast-length
 unfolding item_of
-cast-write-string c = let matched = c in let start = matched in let is = matched.in-String.is in
-    omega (arith, string-length _ _ _ _ _ (rw is at start.requires.0) (start.requires.1.spelled _ is))
+cast-write-string c = let is = c.in-String.is in
+    omega (arith, string-length _ _ _ _ _ (rw is at c.requires.0) (c.requires.1.spelled _ is))
 
 write-string-requires : tie.Need-write_string-requires
 unfolding item_of
 write-string-requires c κs =
-    let matched = c in let start = matched in let is = matched.in-String.is in
-    string-spelling _ _ _ _ _ (rw is at start.requires.0) (start.requires.1.spelled _ is)
+    let is = c.in-String.is in
+    string-spelling _ _ _ _ _ (rw is at c.requires.0) (c.requires.1.spelled _ is)
 
 write-global-requires : tie.Need-write_global-requires
 unfolding item_of
@@ -39,9 +39,8 @@ returns-3 c = rw c.in-Constant.is c.write_constant.ensures
 
 returns-4 : tie.Need-returns-in-String
 unfolding item_of
-returns-4 c = let matched = c in let start = matched in
-    let is = matched.in-String.is in
-    rw is (string-writes _ _ _ _ _ (rw is at start.requires.0) (start.requires.1.spelled _ is) _ c.write_string.ensures)
+returns-4 c = let is = c.in-String.is in
+    rw is (string-writes _ _ _ _ _ (rw is at c.requires.0) (c.requires.1.spelled _ is) _ c.write_string.ensures)
 
 returns-5 : tie.Need-returns-in-Global
 unfolding item_of

@@ -12,36 +12,30 @@ abbrev decreases-loop : tie.decreases-loop-memory
 decreases-loop memory₀ at text from first place₀ to₀ high₀ memory place to high = length text - place
 
 returns : tie.Need-returns-in-Ended invariant-loop decreases-loop
-returns c = let called = c in
-    absurd (not-ended _ _ called.loop-memory.invariant.spelling.quoting (when-ended _ called.character_at-one.ensures c.in-Ended.is))
+returns c = absurd (not-ended _ _ c.loop-memory.invariant.spelling.quoting (when-ended _ c.character_at-one.ensures c.in-Ended.is))
 
 returns-2 : tie.Need-returns-in-Mistake invariant-loop decreases-loop
-returns-2 c = let called = c in
-    absurd (no-mistake _ _ called.loop-memory.invariant.spelling.quoting (when-mistake _ called.character_at-one.ensures c.in-Mistake.is))
+returns-2 c = absurd (no-mistake _ _ c.loop-memory.invariant.spelling.quoting (when-mistake _ c.character_at-one.ensures c.in-Mistake.is))
 
 add-place : tie.Need-overflow_add-place invariant-loop decreases-loop
-add-place c = let matched = c in let called = matched in let head = called in
-    let one = when-is _ called.character_at-one.ensures matched.in-Is.is in
-    omega (arith, (past-character head.args.text.now head.loop-memory.place one).0)
+add-place c = let one = when-is _ c.character_at-one.ensures c.in-Is.is in
+    omega (arith, (past-character c.args.text.now c.loop-memory.place one).0)
 
 returns-4 : tie.Need-returns-in-Ended-two invariant-loop decreases-loop
 returns-4 c =
-    let again = c in let paired = again in let matched = paired in let called = matched in
-    let one = when-is _ called.character_at-one.ensures matched.in-Is.is in
-    let ended = when-ended _ again.character_at-two.ensures c.in-Ended-two.is in
-    absurd (second-not-ended _ _ _ _ _ _ _ _ _ called.loop-memory.invariant one paired.pair-in-Is.ensures ended)
+    let one = when-is _ c.character_at-one.ensures c.in-Is.is in
+    let ended = when-ended _ c.character_at-two.ensures c.in-Ended-two.is in
+    absurd (second-not-ended _ _ _ _ _ _ _ _ _ c.loop-memory.invariant one c.pair-in-Is.ensures ended)
 
 returns-5 : tie.Need-returns-in-Mistake-two invariant-loop decreases-loop
 returns-5 c =
-    let again = c in let paired = again in let matched = paired in let called = matched in
-    let one = when-is _ called.character_at-one.ensures matched.in-Is.is in
-    let mistake = when-mistake _ again.character_at-two.ensures c.in-Mistake-two.is in
-    absurd (second-no-mistake _ _ _ _ _ _ _ _ _ called.loop-memory.invariant one paired.pair-in-Is.ensures mistake)
+    let one = when-is _ c.character_at-one.ensures c.in-Is.is in
+    let mistake = when-mistake _ c.character_at-two.ensures c.in-Mistake-two.is in
+    absurd (second-no-mistake _ _ _ _ _ _ _ _ _ c.loop-memory.invariant one c.pair-in-Is.ensures mistake)
 
 returns-6 : tie.Need-returns-in-Closing-two invariant-loop decreases-loop
-returns-6 c = let paired = c in let matched = paired in let called = matched in
-    let one = when-is _ called.character_at-one.ensures matched.in-Is.is in
-    spells-odd _ _ _ _ _ _ _ _ _ called.loop-memory.invariant one paired.pair-in-Is.ensures (search when-closing)
+returns-6 c = let one = when-is _ c.character_at-one.ensures c.in-Is.is in
+    spells-odd _ _ _ _ _ _ _ _ _ c.loop-memory.invariant one c.pair-in-Is.ensures (search when-closing)
 
 add-place-2 : tie.Need-overflow_add-place-in-Is-two invariant-loop decreases-loop
 add-place-2 c = let two = when-is _ c.character_at-two.ensures c.in-Is-two.is in
@@ -53,11 +47,10 @@ add-place-2 c = let two = when-is _ c.character_at-two.ensures c.in-Is-two.is in
     )
 
 loop-less : tie.Need-loop-memory-smaller invariant-loop decreases-loop
-loop-less c = let second = c in let again = second in let matched = again in
-    let called = matched in let head = called in let text = head.args.text.now in
-    let one = when-is _ called.character_at-one.ensures matched.in-Is.is in
-    let two = when-is _ again.character_at-two.ensures second.in-Is-two.is in
-    omega (arith, past-character text head.loop-memory.place one, past-character text (head.loop-memory.place + matched.in-Is.width) two)
+loop-less c = let text = c.args.text.now in
+    let one = when-is _ c.character_at-one.ensures c.in-Is.is in
+    let two = when-is _ c.character_at-two.ensures c.in-Is-two.is in
+    omega (arith, past-character text c.loop-memory.place one, past-character text (c.loop-memory.place + c.in-Is.width) two)
 
 pub write_string_spec : {M : Type 1} → Rattle.assembler.proofs.write_string.Statement.statement M
 write_string_spec = tie.close

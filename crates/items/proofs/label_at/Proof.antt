@@ -5,16 +5,14 @@ use Rattle.items.proofs.Items.{no_item, a-label, label-fails, label-none}
 use Rattle.items.proofs.label_at.Tie as tie
 
 add-t9 : tie.Need-overflow_add-result
-add-t9 c = let read = c in
-    omega (
-      arith,
-      inside read.args.text.now read.in-Got.past
-          (eqb-true _ 58 (sym c.has.ensures ∙ c.if-has.true)) (omega arith),
-    )
+add-t9 c = omega (
+  arith,
+  inside c.args.text.now c.in-Got.past
+      (eqb-true _ 58 (sym c.has.ensures ∙ c.if-has.true)) (omega arith),
+)
 
 returns-2 : tie.Need-returns-else-has
-returns-2 c = let read = c in
-    no_item _ (label-fails _ _ (decimal-reads _ _ read.decimal_at-n.ensures read.in-Got.is)
+returns-2 c = no_item _ (label-fails _ _ (decimal-reads _ _ c.decimal_at-n.ensures c.in-Got.is)
     (sym c.has.ensures ∙ c.if-has.false))
 
 pub label_at_spec : {M : Type 1} → Rattle.items.proofs.label_at.Statement.statement M

@@ -10,9 +10,7 @@ add-decimal-at c = let args = c.args in
     omega (arith, inside args.text.now args.at (eqb-true _ 76 (holds c.has.ensures c.if-not-has.false)) (omega arith))
 
 returns-3 : tie.Need-returns-else-ended
-returns-3 c = let read = c in
-    let called = read in
-    let number = decimal-reads _ _ called.decimal_at-m.ensures read.in-Got.is in
+returns-3 c = let number = decimal-reads _ _ c.decimal_at-m.ensures c.in-Got.is in
     no_item _ (global-open _ _ _ (search (byte_reads, holds)) number (search ended-fails))
 
 pub labelled_global_spec : {M : Type 1} → Rattle.items.proofs.labelled_global.Statement.statement M

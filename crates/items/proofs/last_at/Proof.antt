@@ -10,5 +10,5 @@ add-past-gap c = let text = c.args.text.now in
 
 pub last_at_spec : {M : Type 1} → Rattle.items.proofs.last_at.Statement.statement M
 last_at_spec = tie.close
-    (tie.spec (search needs) (λ c. search (last-unread)) add-past-gap (search needs) (λ c. search (last-whole))
-    (λ c. search (last_more)))
+    (tie.spec (search needs) (λ c. search last-unread) add-past-gap (search needs) (λ c. search last-whole)
+    (λ c. search last_more))
