@@ -5,7 +5,7 @@ use Rattle.laws.proofs.Basics.{eq-eqb, ne_eqb, add-shift}
 use Rattle.laws.proofs.Cases.{by_cases, by_equal, contradiction}
 use Rattle.items.specs.Item as I
 use Rattle.items.specs.Scan.{Scan}
-use Rattle.assembler.specs.Words.{words, operand_word}
+use Rattle.assembler.specs.Words.{words, size, operand_word}
 use Rattle.assembler.specs.declared.Label.{Label}
 use Rattle.assembler.specs.Layout.{defined, address_of, misplaced, fault, known, unknowns}
 use Rattle.assembler.specs.Passes.{as_found, listed_from, listed, Indexes, put, filled, WritesAll}
@@ -147,7 +147,7 @@ module _ (a b : List Label) (same : (n : ℕ) → as_found a n ≡ as_found b n)
   filled-same : (at : ℕ) (memory : List ℕ) (ps : List I.Placed) → filled a at memory ps ≡ filled b at memory ps
   unfolding filled
   filled-same at memory [] = refl
-  filled-same at memory (p ∷ ps) = rw (put_same at memory p.item) (filled-same _ _ ps)
+  filled-same at memory (p ∷ ps) = rw (put_same at memory p.item) (filled-same (at + size p.item) _ ps)
 
 -- ---- so an index serves for the records
 

@@ -4,9 +4,6 @@ pub mod Indexing
 pub mod Operands
 pub mod Records
 pub mod Numbered
-pub mod Local
-pub mod Turns
-pub mod Walking
 pub mod Faults
 pub mod Noting
 pub mod Reading

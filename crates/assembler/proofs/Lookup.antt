@@ -47,9 +47,6 @@ first-other : (l : Label) (ls : List Label) (n : ℕ) → (l.number ≡ n → �
 unfolding looked_up defined address_of
 first-other l ls n e = simp (ne_eqb l.number n e)
 
-pub looked-none : (labels : List Label) (n : ℕ) → looked_up labels n ≡ looked_up (drop 0 labels) n
-looked-none labels n = refl
-
 module _ (labels : List Label) (n i : ℕ) (inv : looked_up labels n ≡ looked_up (drop i labels) n) where
   pub looked-at : {r : Found} → i < length labels → (get_or labels i vacant).number ≡ n → r ≡ told_by (get_or labels i vacant) → r ≡ looked_up labels n
   looked-at h e q =

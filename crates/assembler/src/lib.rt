@@ -4,6 +4,8 @@
 // writes the words. In the passes a label's record is one number, a key: the label's number times 65,536 and its address.
 // The lent records are filled from the keys at the end; `look_up` finds a label in them. The passes find a label by an index,
 // the address of every label number, so that a look-up is one read however many labels there are.
+#![tactic(auto)]
+
 ghost use Rattle.std.specs.Prelude.{◌+◌, ◌-◌, ◌*◌, ◌<◌, ◌≤◌, ◌≡◌, true, [], ◌++◌, length, get_or, replicate, drop};
 ghost use Rattle.std.proofs.lemmas.List.Edits.{sets};
 ghost use Rattle.items.specs.Item as I;
@@ -22,7 +24,7 @@ use text::{Character, Refusal};
 
 // A record of the label table.
 #[repr(C)]
-#[derive(Drop)]
+#[derive(Clone, Copy, Drop)]
 pub struct Label {
     pub number: u16,
     pub address: u16,

@@ -5,7 +5,7 @@ use Rattle.laws.proofs.Cases.{contradiction}
 use Rattle.text.proofs.Bytes.{at_byte, past_end}
 use Rattle.text.proofs.Quotes.{digit-bounds}
 use Rattle.items.specs.Item.{capped}
-use Rattle.items.specs.Reader.{Got, nothing, head, is_digit, digits, digit_count, decimal}
+use Rattle.items.specs.Reader.{nothing, head, is_digit, digits, digit_count, decimal}
 use Rattle.items.specs.Parts.{as_decimal}
 use Rattle.items.specs.declared.ReadDecimal.{ReadDecimal}
 use Rattle.items.proofs.Places.{by-got, Reads, head_in}

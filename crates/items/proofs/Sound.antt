@@ -8,7 +8,7 @@ use Rattle.text.proofs.Quotes.{Writable, each-byte, Closed, is-closed}
 use Rattle.items.specs.Item.{capped, Operand, number, address, Item, label, instruction, constant, string, global}
 use Rattle.items.specs.Reader.{Got, got, nothing, wide, on_got, head, byte, optional, is_digit, digits, digit_count, decimal}
 use Rattle.items.specs.Read.{ended, as_character, quoted_character, as_string, quoted_string, negative, quotation, labelled, positive, operand}
-use Rattle.items.specs.Read.{base, label_item, instruction_item, constant_item, string_item, global_item, function_of, past, item}
+use Rattle.items.specs.Read.{base, label_item, instruction_item, constant_item, string_item, global_item, function_of, item}
 use Rattle.items.specs.Scan.{mark}
 use Rattle.items.specs.Next.{one, one_of, last_of, element_at, next_in}
 

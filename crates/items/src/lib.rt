@@ -3,6 +3,8 @@
 // `start_in` finds where the items begin and `next_in` reads one of them; both look at any place of any bytes. Below
 // them each function reads one part, and answers with the part and the place past it. A place past the end has the
 // byte 256, as in the definitions.
+#![tactic(auto)]
+
 ghost use Rattle.std.specs.Prelude.{◌+◌, ◌-◌, ◌*◌, ◌≤◌, ◌≡◌, false, cond, eqb, drop};
 ghost use Rattle.items.specs.Item.{capped};
 ghost use Rattle.items.specs.Reader.{head, is_digit, decimal};
@@ -16,21 +18,21 @@ ghost use Rattle.items.specs.Parts.{is_got, as_decimal, as_operand_at, as_based,
 use text::Quoted;
 
 // A number as it is written, with a minus or not; or a label.
-#[derive(Drop)]
+#[derive(Clone, Copy, Drop)]
 pub enum Operand {
     Number(bool, u32),
     Address(u32),
 }
 
 // What is added to an operand.
-#[derive(Drop)]
+#[derive(Clone, Copy, Drop)]
 pub enum Base {
     Plain,
     P,
     G,
 }
 
-#[derive(Drop)]
+#[derive(Clone, Copy, Drop)]
 pub enum Item {
     // n:
     Label(u32),

@@ -3,12 +3,11 @@ use Rattle.assembler.proofs.Assembling.{is-ready, assembles-short, assembles-lon
 use Rattle.laws.proofs.Basics.{needs}
 use Rattle.assembler.proofs.assemble_keys.Tie as tie
 
-assemble-from-requires : tie.Need-assemble-from-requires
+assemble-from-requires : tie.Need-assemble_from-requires
 assemble-from-requires c κs =
-    let tested = c.before.before.before.before.before.before in let cleared = tested.before.before.before.before in
-    let blank = cleared.before.before.before.before in let args = blank.before.before.before.before.before.args in
-    is-ready args.text.now args.memory.now args.labels.now blank.clear-words.ensures cleared.clear-labels.ensures
-    tested.before.if1.false tested.if2.false
+    let args = c.args in
+    is-ready args.text.now args.memory.now args.labels.now c.clear_words.ensures c.clear_labels.ensures
+    c.if-memory-lt512.false c.if-memory-gt32768.false
 
 pub assemble_keys_spec : {M : Type 1} → Rattle.assembler.proofs.assemble_keys.Statement.statement M
 assemble_keys_spec = tie.close

@@ -4,5 +4,5 @@ use Rattle.assembler.proofs.base_bit.Tie as tie
 
 pub base_bit_spec : {M : Type 1} → Rattle.assembler.proofs.base_bit.Statement.statement M
 unfolding base_of
-base_bit_spec = tie.close (tie.spec (search needs) (search needs) (search needs) (λ c. (rw c.enum_told.given.1, omega arith))
-    (λ c. (rw c.enum-told2.given.1, omega arith)) (λ c. (rw c.enum-told3.given.1, omega arith)))
+base_bit_spec = tie.close (tie.spec (search needs) (search needs) (search needs) (λ c. (rw c.in-Plain.is, omega arith))
+    (λ c. (rw c.in-P.is, omega arith)) (λ c. (rw c.in-G.is, omega arith)))

@@ -3,11 +3,11 @@ use Rattle.assembler.specs.Passes.{operand_of}
 use Rattle.laws.proofs.Basics.{needs}
 use Rattle.assembler.proofs.operand_in_range.Tie as tie
 
-returns-3 : tie.Need-returns-3
+returns-3 : tie.Need-returns-in-Address
 unfolding operand_in_range operand_of
-returns-3 c = rw c.before.before.x2.given.1 c.label-in-range.ensures
+returns-3 c = rw c.in-Address.is c.label_in_range.ensures
 
 pub operand_in_range_spec : {M : Type 1} → Rattle.assembler.proofs.operand_in_range.Statement.statement M
 unfolding operand_in_range operand_of
-operand_in_range_spec = tie.close (tie.spec (search needs) (search needs) (search needs) (λ c. rw (c.before.before.x.given.1, c.if1.true))
-    (λ c. rw (c.before.before.x.given.1, c.if1.false)) returns-3)
+operand_in_range_spec = tie.close (tie.spec (search needs) (search needs) (search needs) (λ c. rw (c.in-Number.is, c.if-minus.true))
+    (λ c. rw (c.in-Number.is, c.if-minus.false)) returns-3)

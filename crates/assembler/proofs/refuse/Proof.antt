@@ -7,10 +7,10 @@ use Rattle.assembler.proofs.refuse.Tie as tie
 returns : tie.Need-returns
 unfolding refuse
 returns c = record {
-  answers = ap Refused c.refuse.ensures;
-  fills = c.before.before.before.before.before.before.before.clear-words.ensures;
-  tables = cleared-records c.before.before.before.before.before.before.before.before.before.before.before.before.args.labels.now
-      c.before.before.before.clear-labels.ensures;
+  answers = ap Refused c.refuse-refusal.ensures;
+  fills = c.clear_words.ensures;
+  tables = cleared-records c.args.labels.now
+      c.clear_labels.ensures;
 }
 
 pub refuse_spec : {M : Type 1} → Rattle.assembler.proofs.refuse.Statement.statement M

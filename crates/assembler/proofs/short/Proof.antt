@@ -6,9 +6,9 @@ use Rattle.assembler.proofs.short.Tie as tie
 
 signed-requires : tie.Need-signed-requires
 unfolding operand_of
-signed-requires c κs = number-below _ (rw c.before.x.given.1 at c.before.before.before.requires)
+signed-requires c κs = number-below _ (rw c.in-Number.is at c.requires)
 
 pub short_spec : {M : Type 1} → Rattle.assembler.proofs.short.Statement.statement M
 unfolding short operand_of
-short_spec = tie.close (tie.spec (search needs) signed-requires (search needs) (λ c. rw (c.before.before.x.given.1, c.signed.ensures))
-    (λ c. rw c.enum_told.given.1))
+short_spec = tie.close (tie.spec (search needs) signed-requires (search needs) (λ c. rw (c.in-Number.is, c.signed.ensures))
+    (λ c. rw c.in-Address.is))

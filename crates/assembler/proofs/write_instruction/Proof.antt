@@ -3,26 +3,26 @@ use Rattle.assembler.proofs.Writing.{short-below, first_fits, second_fits, instr
 use Rattle.laws.proofs.Basics.{sym, ◌∙◌, length-set, arith, needs}
 use Rattle.assembler.proofs.write_instruction.Tie as tie
 
-add-memory : tie.Need-overflow-add-memory
+add-memory : tie.Need-overflow_add-memory
 add-memory c = omega (
   arith,
-  short-below _ _ c.before.before.before.before.before.value.ensures c.before.before.before.found.given.1
-      (sym c.before.short.ensures ∙ c.if1.true),
+  short-below _ _ c.value-found.ensures c.in-At.is
+      (sym c.short.ensures ∙ c.if-short.true),
 )
 
-returns : tie.Need-returns
-returns c = instruction-short _ _ _ _ _ _ _ c.before.before.before.before.before.before.before.before.requires
-    c.before.before.before.before.before.value.ensures c.before.before.before.before.before.before.head.ensures.0
-    c.before.before.before.found.given.1 (sym c.before.short.ensures ∙ c.if1.true)
+returns : tie.Need-returns-then-short
+returns c = instruction-short _ _ _ _ _ _ _ c.requires
+    c.value-found.ensures c.head-word.ensures.0
+    c.in-At.is (sym c.short.ensures ∙ c.if-short.true)
 
-slice-write-memory-3 : tie.Need-slice-write-memory-3
-slice-write-memory-3 c = rw length-set (second_fits _ _ _ _ _ (sym c.before.short.ensures ∙ c.if1.false)
-    c.before.before.before.before.before.before.before.before.requires.fits)
+slice-write-memory-3 : tie.Need-bounds-memory-at-in-At-2
+slice-write-memory-3 c = rw length-set (second_fits _ _ _ _ _ (sym c.short.ensures ∙ c.if-short.false)
+    c.requires.fits)
 
-returns-3 : tie.Need-returns-3
-returns-3 c = instruction-long _ _ _ _ _ _ _ c.before.before.before.before.before.before.before.before.requires
-    c.before.before.before.before.before.value.ensures c.before.before.before.before.before.before.head.ensures.0
-    c.before.before.before.found.given.1 (sym c.before.short.ensures ∙ c.if1.false)
+returns-3 : tie.Need-returns-else-short
+returns-3 c = instruction-long _ _ _ _ _ _ _ c.requires
+    c.value-found.ensures c.head-word.ensures.0
+    c.in-At.is (sym c.short.ensures ∙ c.if-short.false)
 
 pub write_instruction_spec : {M : Type 1} → Rattle.assembler.proofs.write_instruction.Statement.statement M
 unfolding in_range

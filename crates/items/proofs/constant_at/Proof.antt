@@ -4,9 +4,8 @@ use Rattle.items.proofs.Operands.{operand-reads, operand-fails}
 use Rattle.items.proofs.Items.{no_item, a-constant, constant-open, constant-none}
 use Rattle.items.proofs.constant_at.Tie as tie
 
-returns-2 : tie.Need-returns-2
-returns-2 c = let read = c.before.before.before in
-    no_item _ (constant-open _ _ (operand-reads _ _ read.before.before.Operand-at.ensures read.x.given.1).reads (search ended-fails))
+returns-2 : tie.Need-returns-else-ended
+returns-2 c = no_item _ (constant-open _ _ (operand-reads _ _ c.operand_at-x.ensures c.in-Got.is).reads (search ended-fails))
 
 pub constant_at_spec : {M : Type 1} → Rattle.items.proofs.constant_at.Statement.statement M
 constant_at_spec = tie.close

@@ -5,5 +5,5 @@ use Rattle.items.proofs.function_of.Tie as tie
 
 pub function_of_spec : {M : Type 1} → Rattle.items.proofs.function_of.Statement.statement M
 unfolding function_of
-function_of_spec = tie.close (tie.spec (λ c. rw c.match.keys1) (λ c. rw c.match.keys2) (λ c. rw c.match.keys3) (λ c. rw c.match.keys4)
-    (λ c. rw c.match.keys5) (λ c. rw c.match.keys6) (λ c. rw c.match.keys7) (λ c. rw c.match.keys8) (λ c. sym (search no-function)))
+function_of_spec = tie.close (tie.spec (λ c. rw c.in-76.is) (λ c. rw c.in-83.is) (λ c. rw c.in-65.is) (λ c. rw c.in-74.is)
+    (λ c. rw c.in-84.is) (λ c. rw c.in-70.is) (λ c. rw c.in-75.is) (λ c. rw c.in-88.is) (λ c. sym (search no-function)))

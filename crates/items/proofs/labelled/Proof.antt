@@ -9,7 +9,7 @@ use Rattle.items.proofs.labelled.Tie as tie
 pub labelled_spec : {M : Type 1} → Rattle.items.proofs.labelled.Statement.statement M
 unfolding as_operand
 labelled_spec = tie.close
-    (tie.spec (λ c. omega (arith, inside c.before.args.text.now c.before.args.at c.before.requires (omega arith))) (search needs)
+    (tie.spec (λ c. omega (arith, inside c.args.text.now c.args.at c.requires (omega arith))) (search needs)
     (search needs) (search needs)
-    (λ c. an-operand labelled _ _ (labelled-reads _ _ c.before.before.before.before.before.requires (search decimal-reads)))
+    (λ c. an-operand labelled _ _ (labelled-reads _ _ c.requires (search decimal-reads)))
     (λ c. search (no_operand, labelled-fails, decimal-fails)))

@@ -5,14 +5,12 @@ use Rattle.items.proofs.Decimals.{decimal-reads, decimal-fails}
 use Rattle.items.proofs.Items.{a-global, no_item, global-open, global-unlabelled, global-short}
 use Rattle.items.proofs.labelled_global.Tie as tie
 
-add-decimal-at : tie.Need-overflow-add-decimal-at
-add-decimal-at c = let args = c.before.before.before.args in
-    omega (arith, inside args.text.now args.at (eqb-true _ 76 (holds c.before.has.ensures c.if1.false)) (omega arith))
+add-decimal-at : tie.Need-overflow_add-at
+add-decimal-at c = let args = c.args in
+    omega (arith, inside args.text.now args.at (eqb-true _ 76 (holds c.has.ensures c.if-not-has.false)) (omega arith))
 
-returns-3 : tie.Need-returns-3
-returns-3 c = let read = c.before.before.before in
-    let called = read.before.before in
-    let number = decimal-reads _ _ called.decimal-at.ensures read.m.given.1 in
+returns-3 : tie.Need-returns-else-ended
+returns-3 c = let number = decimal-reads _ _ c.decimal_at-m.ensures c.in-Got.is in
     no_item _ (global-open _ _ _ (search (byte_reads, holds)) number (search ended-fails))
 
 pub labelled_global_spec : {M : Type 1} → Rattle.items.proofs.labelled_global.Statement.statement M

@@ -5,7 +5,7 @@ use Rattle.items.proofs.Operands.{an-operand, no_operand, positive-reads, positi
 use Rattle.laws.proofs.Basics.{needs}
 use Rattle.items.proofs.positive.Tie as tie
 
-returns : tie.Need-returns
+returns : tie.Need-returns-in-Got
 unfolding as_operand
 returns c = an-operand positive _ _ (positive-reads _ _ (search decimal-reads))
 

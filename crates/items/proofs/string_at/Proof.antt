@@ -6,35 +6,32 @@ use Rattle.items.proofs.Places.{inside, byte_reads, ended-reads, ended-fails}
 use Rattle.items.proofs.Items.{no_item, a-string, string-open, string-unclosed, string-faulty, string-none}
 use Rattle.items.proofs.string_at.Tie as tie
 
-add-quoted-at : tie.Need-overflow-add-quoted-at
-add-quoted-at c = let args = c.before.before.before.args in
-    omega (arith, inside args.text.now args.at (eqb-true _ 34 (holds c.before.has.ensures c.if1.false)) (omega arith))
+add-quoted-at : tie.Need-overflow_add-at
+add-quoted-at c = let args = c.args in
+    omega (arith, inside args.text.now args.at (eqb-true _ 34 (holds c.has.ensures c.if-not-has.false)) (omega arith))
 
-add-past : tie.Need-overflow-add-past
-add-past c = let asked = c.before.before.before.before in let args = asked.before.before.before.args in
-    omega (arith, inside args.text.now args.at (eqb-true _ 34 (holds asked.before.has.ensures asked.if1.false)) (omega arith))
+add-past : tie.Need-overflow_add-past
+add-past c = let args = c.args in
+    omega (arith, inside args.text.now args.at (eqb-true _ 34 (holds c.has.ensures c.if-not-has.false)) (omega arith))
 
-add-past-2 : tie.Need-overflow-add-past-2
-add-past-2 c = let called = c.before.before.before in
-    let args = called.before.before.before.before.args in
-    omega (arith, closed-inside 34 255 _ (args.at + 1) (when-closed _ called.quoted-at.ensures c.before.s.given.1))
+add-past-2 : tie.Need-overflow_add-past-in-Closed
+add-past-2 c = let args = c.args in
+    omega (arith, closed-inside 34 255 _ (args.at + 1) (when-closed _ c.quoted_at-s.ensures c.in-Closed.is))
 
-returns-2 : tie.Need-returns-2
-returns-2 c = let read = c.before.before.before in
-    a-string _ _ (search (byte_reads, holds)) (when-closed _ read.before.before.quoted-at.ensures read.s.given.1) refl (search ended-reads)
+returns-2 : tie.Need-returns-then-ended
+returns-2 c = a-string _ _ (search (byte_reads, holds)) (when-closed _ c.quoted_at-s.ensures c.in-Closed.is) refl (search ended-reads)
 
-returns-3 : tie.Need-returns-3
-returns-3 c = let read = c.before.before.before in let called = read.before.before in
-    let string = when-closed _ called.quoted-at.ensures read.s.given.1 in
-    no_item _ (string-open _ called.before.before.before.before.args.at (search (byte_reads, holds)) string refl (search ended-fails))
+returns-3 : tie.Need-returns-else-ended
+returns-3 c = let string = when-closed _ c.quoted_at-s.ensures c.in-Closed.is in
+    no_item _ (string-open _ c.args.at (search (byte_reads, holds)) string refl (search ended-fails))
 
-returns-4 : tie.Need-returns-4
-returns-4 c = let called = c.before.before in let at = called.before.before.before.before.args.at in
-    no_item _ (string-unclosed _ at (search (byte_reads, holds)) (when-unclosed _ called.quoted-at.ensures c.enum_told.given.1))
+returns-4 : tie.Need-returns-in-Unclosed
+returns-4 c = let at = c.args.at in
+    no_item _ (string-unclosed _ at (search (byte_reads, holds)) (when-unclosed _ c.quoted_at-s.ensures c.in-Unclosed.is))
 
-returns-5 : tie.Need-returns-5
-returns-5 c = let called = c.before.before in let at = called.before.before.before.before.args.at in
-    no_item _ (string-faulty _ at (search (byte_reads, holds)) (when-faulty _ called.quoted-at.ensures c.enum-told2.given.1))
+returns-5 : tie.Need-returns-in-Faulty
+returns-5 c = let at = c.args.at in
+    no_item _ (string-faulty _ at (search (byte_reads, holds)) (when-faulty _ c.quoted_at-s.ensures c.in-Faulty.is))
 
 pub string_at_spec : {M : Type 1} → Rattle.items.proofs.string_at.Statement.statement M
 string_at_spec = tie.close

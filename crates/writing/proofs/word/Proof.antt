@@ -6,7 +6,7 @@ use Rattle.writing.proofs.word.Tie as tie
 
 returns : tie.Need-returns
 unfolding line render operand_text
-returns c = appends-then c.before.before.before.before.before.before.emit.ensures c.before.before.last.ensures
+returns c = appends-then c.emit-x.ensures c.last.ensures
 
 pub word_spec : {M : Type 1} → Rattle.writing.proofs.word.Statement.statement M
 word_spec = tie.close (tie.spec (search needs) (search needs) (search needs) returns)
