@@ -3,8 +3,8 @@ use Rattle.symbols.proofs.Runs.{word-run, run-within}
 use Rattle.symbols.proofs.Heads.{a_word}
 use Rattle.symbols.proofs.elements.word_at.Tie as tie
 
-kind-of-requires : tie.Need-kind-of-requires
-kind-of-requires c κs = let start = c.before.before in let at = start.args.at in let text = start.args.text.now in
+kind-of-requires : tie.Need-kind_of-found-requires
+kind-of-requires c κs = let start = c in let at = start.args.at in let text = start.args.text.now in
     (omega (arith, run-within word-run (drop at text), length-drop at text), start.requires.2)
 
 pub word_at_spec : {M : Type 1} → Rattle.symbols.proofs.elements.word_at.Statement.statement M
