@@ -9,7 +9,7 @@ put-requires c κs = let pre = c.requires in let h = rw c.if-semicolon.true at p
 put-requires-2 : tie.Need-put-requires-then-semicolon
 put-requires-2 c κs = let first = c in let tested = first in let start = tested in
     let args = start.args in let h = rw tested.if-semicolon.true at start.requires.0 in
-    let e = put-length args.scratch-1.now args.count 54 0 args.place (omega (arith, h)) first.put.ensures in
+    let e = put-length args.scratch.now args.count 54 0 args.place (omega (arith, h)) first.put.ensures in
     (omega (arith, h, e), start.requires.1, start.requires.2, start.requires.3)
 
 returns : tie.Need-returns-then-semicolon
