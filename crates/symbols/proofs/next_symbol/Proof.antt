@@ -10,26 +10,26 @@ abbrev decreases-loop : tie.decreases-loop-i
 decreases-loop classes table text at newline₀ i₀ newline i = length text - i
 
 add-t16 : tie.Need-overflow_add-result invariant-loop decreases-loop
-add-t16 c = let called = c in let head = called in let text = head.args.text.now in
-    let read = when-symbol (element_at text head.loop-i.i) called.element_at-element.ensures c.in-Symbol.is in
-    omega (arith, symbol-inside text head.loop-i.i called.loop-i-test.true read)
+add-t16 c = let text = c.args.text.now in
+    let read = when-symbol (element_at text c.loop-i.i) c.element_at-element.ensures c.in-Symbol.is in
+    omega (arith, symbol-inside text c.loop-i.i c.loop-i-test.true read)
 
 add-t17 : tie.Need-overflow_add-result-in-Wrong invariant-loop decreases-loop
-add-t17 c = let called = c in let head = called in let text = head.args.text.now in
-    let read = when-wrong (element_at text head.loop-i.i) called.element_at-element.ensures c.in-Wrong.is in
-    omega (arith, wrong-inside text head.loop-i.i called.loop-i-test.true read)
+add-t17 c = let text = c.args.text.now in
+    let read = when-wrong (element_at text c.loop-i.i) c.element_at-element.ensures c.in-Wrong.is in
+    omega (arith, wrong-inside text c.loop-i.i c.loop-i-test.true read)
 
 add-i : tie.Need-overflow_add-i invariant-loop decreases-loop
-add-i c = let matched = c in let called = matched in let head = called in
-    let text = head.args.text.now in
-    let read = when-gap (element_at text head.loop-i.i) called.element_at-element.ensures matched.in-Gap.is in
-    omega (arith, gap-inside _ _ _ head.loop-i.invariant called.loop-i-test.true read)
+add-i c =
+    let text = c.args.text.now in
+    let read = when-gap (element_at text c.loop-i.i) c.element_at-element.ensures c.in-Gap.is in
+    omega (arith, gap-inside _ _ _ c.loop-i.invariant c.loop-i-test.true read)
 
 loop-less : tie.Need-loop-i-smaller invariant-loop decreases-loop
-loop-less c = let matched = c in let called = matched in let head = called in
-    let text = head.args.text.now in
-    let read = when-gap (element_at text head.loop-i.i) called.element_at-element.ensures matched.in-Gap.is in
-    omega (arith, gap-inside _ _ _ head.loop-i.invariant called.loop-i-test.true read)
+loop-less c =
+    let text = c.args.text.now in
+    let read = when-gap (element_at text c.loop-i.i) c.element_at-element.ensures c.in-Gap.is in
+    omega (arith, gap-inside _ _ _ c.loop-i.invariant c.loop-i-test.true read)
 
 pub next_symbol_spec : {M : Type 1} → Rattle.symbols.proofs.next_symbol.Statement.statement M
 next_symbol_spec = tie.close

@@ -5,21 +5,21 @@ use Rattle.symbols.proofs.Quotations.{fault-inside, no-character, a-character, c
 use Rattle.symbols.proofs.elements.character_at.Tie as tie
 
 add-t12 : tie.Need-overflow_add-result
-add-t12 c = let matched = c in let called = matched in let args = called.args in
-    omega (arith, closed-inside 39 1 args.text.now args.at (when-closed _ called.quoted_at-constant.ensures matched.in-Closed.is))
+add-t12 c = let args = c.args in
+    omega (arith, closed-inside 39 1 args.text.now args.at (when-closed _ c.quoted_at-constant.ensures c.in-Closed.is))
 
 add-t13 : tie.Need-overflow_add-result-in-Faulty
-add-t13 c = let matched = c in let called = matched in let args = called.args in
-    omega (arith, fault-inside args.text.now args.at 39 1 (when-faulty _ called.quoted_at-constant.ensures matched.in-Faulty.is))
+add-t13 c = let args = c.args in
+    omega (arith, fault-inside args.text.now args.at 39 1 (when-faulty _ c.quoted_at-constant.ensures c.in-Faulty.is))
 
 returns : tie.Need-returns-then-n-eq0
-returns c = let matched = c in let called = matched in
-    no-character _ called.args.at (when-closed _ called.quoted_at-constant.ensures matched.in-Closed.is) c.if-n-eq0.true
+returns c =
+    no-character _ c.args.at (when-closed _ c.quoted_at-constant.ensures c.in-Closed.is) c.if-n-eq0.true
 
 returns-2 : tie.Need-returns-else-n-eq0
-returns-2 c = let matched = c in let called = matched in
-    let constant = when-closed _ called.quoted_at-constant.ensures matched.in-Closed.is in
-    rw c.wide.ensures.0 (a-character _ called.args.at constant c.if-n-eq0.false c.value_at-value.ensures)
+returns-2 c =
+    let constant = when-closed _ c.quoted_at-constant.ensures c.in-Closed.is in
+    rw c.wide.ensures.0 (a-character _ c.args.at constant c.if-n-eq0.false c.value_at-value.ensures)
 
 pub character_at_spec : {M : Type 1} → Rattle.symbols.proofs.elements.character_at.Statement.statement M
 character_at_spec = tie.close

@@ -10,13 +10,13 @@ abbrev decreases-loop : tie.decreases-loop-i
 decreases-loop text at base n₀ i₀ n i = length text - i
 
 and-digit-requires : tie.Need-and_digit-n-requires invariant-loop decreases-loop
-and-digit-requires c κs = let read = c in let loop = read in
+and-digit-requires c κs =
     let digit = digit-from _ _ (holds c.is_digit.ensures c.if-not-is_digit.false) in
-    (loop.requires.1, loop.loop-i.invariant.small, digit, read.wide-c.ensures.1)
+    (c.requires.1, c.loop-i.invariant.small, digit, c.wide-c.ensures.1)
 
 pub digits_at_spec : {M : Type 1} → Rattle.symbols.proofs.elements.digits_at.Statement.statement M
 digits_at_spec = tie.close (tie.spec invariant-loop decreases-loop (λ c. digits-start _ _ _) (search needs) (search needs) (search needs) (search needs)
     (λ c. digits-stop c.loop-i.invariant (search needs) c.wide-c.ensures.0 (search fails))
-    and-digit-requires (search needs) (search needs) (λ c. let read = c in let loop = read in
-    digits_more loop.loop-i.invariant (search needs) read.wide-c.ensures.0 loop.requires.0 (search holds) c.and_digit-n.ensures)
+    and-digit-requires (search needs) (search needs) (λ c.
+    digits_more c.loop-i.invariant (search needs) c.wide-c.ensures.0 c.requires.0 (search holds) c.and_digit-n.ensures)
     (search needs) (λ c. digits-end c.loop-i.invariant (search needs)))
