@@ -211,11 +211,13 @@ module _ (text : List ℕ) (at width : ℕ) (h : at + width ≤ length text) whe
           → of_length (length word) (slice row past by_letter) ≡ of_length (length word) (slice (row + 1) past by_letter)
       unfolding of_length
       left_passed d = rw (row_cons, taken [] text at width h, ne_eqb (length (spelling_at row)) width d)
+          (ap (λ (n : ℕ). of_length n (slice (row + 1) past by_letter)) (taken [] text at width h))
 
       left-cons : length (spelling_at row) ≡ width
           → of_length (length word) (slice row past by_letter) ≡ spelled_at row ∷ of_length (length word) (slice (row + 1) past by_letter)
       unfolding of_length
       left-cons e = rw (row_cons, taken [] text at width h, eq-eqb (length (spelling_at row)) width e)
+          (ap (λ (n : ℕ). spelled_at row ∷ of_length n (slice (row + 1) past by_letter)) (taken [] text at width h))
 
       pub search-passes : (length (spelling_at row) ≡ width → ⊥) → Searching word past n (row + 1)
       search-passes d = record { few = omega (arith, s.few); kind = s.kind ∙ rw (left_passed d); count = s.count ∙ rw (left_passed d) }

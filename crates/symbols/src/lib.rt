@@ -2,6 +2,8 @@
 //
 // `read_symbols` goes over the text once, from symbol to symbol by `next_symbol`: each is matched with the open brackets,
 // which stand on a stack, and written. At a refusal what is written is cleared.
+#![tactic(auto)]
+
 mod elements;
 mod kinds;
 mod spellings;

@@ -2,6 +2,8 @@
 //
 // `scratch` has the state of the reading and its single steps, `binding` what the symbols' kinds say, `parts` names, constants and
 // labels, `phrases` expressions and commands, `declarations` programs. How a tree stands in scratch is `specs/Encoding.antt`.
+#![tactic(auto)]
+
 mod binding;
 mod declarations;
 mod kinds;

@@ -1,14 +1,14 @@
-use Rattle.laws.proofs.Basics.{sym, ◌∙◌, needs, not-true, not-false}
+use Rattle.laws.proofs.Basics.{sym, ◌∙◌, needs}
 use Rattle.symbols.proofs.Tests.{gain-within, gain-between}
 use Rattle.symbols.proofs.gains.Tie as tie
 
-returns-3 : tie.Need-returns-3
-returns-3 c = let args = c.before.before.before.before.args in
-    let ends = sym c.before.before.ends-line.ensures ∙ not-false _ c.before.if2.false in
-    rw (not-false args.newline c.before.before.before.if1.false)
-    (c.begins-line.ensures ∙ sym (gain-between args.before args.kind ends))
+returns-3 : tie.Need-returns
+returns-3 c = let args = c.args in
+    let ends = sym c.ends_line.ensures ∙ c.if-not-ends_line.false in
+    rw (c.if-not-newline.false)
+    (c.begins_line.ensures ∙ sym (gain-between args.before args.kind ends))
 
 pub gains_spec : {M : Type 1} → Rattle.symbols.proofs.gains.Statement.statement M
 gains_spec = tie.close
-    (tie.spec (λ c. let args = c.before.args in rw (not-true args.newline c.if1.true) (sym (gain-within args.before args.kind)))
-    (search needs) (λ c. rw (sym c.before.ends-line.ensures ∙ not-true _ c.if2.true)) (search needs) returns-3)
+    (tie.spec (λ c. let args = c.args in rw (c.if-not-newline.true) (sym (gain-within args.before args.kind)))
+    (search needs) (λ c. rw (sym c.ends_line.ensures ∙ c.if-not-ends_line.true)) (search needs) returns-3)

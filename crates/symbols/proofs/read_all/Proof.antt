@@ -5,16 +5,16 @@ use Rattle.symbols.proofs.Writing.{Putting, putting-start, putting-end, room_for
 use Rattle.symbols.proofs.Reading.{refused, written}
 use Rattle.symbols.proofs.read_all.Tie as tie
 
-abbrev invariant-loop : tie.invariant-loop
+abbrev invariant-loop : tie.invariant-loop-number
 invariant-loop classes table text stack₀ scratch₀ at₀ depth₀ count₀ before₀ strings₀ stack scratch at depth count before strings =
     Going text stack₀ at depth stack × Putting text scratch₀ at count before strings scratch
 
-abbrev decreases-loop : tie.decreases-loop
+abbrev decreases-loop : tie.decreases-loop-number
 decreases-loop classes table text stack₀ scratch₀ at₀ depth₀ count₀ before₀ strings₀ stack scratch at depth count before strings = length text - at
 
 pub read_all_spec : {M : Type 1} → Rattle.symbols.proofs.read_all.Statement.statement M
 read_all_spec = tie.close
-    (tie.spec invariant-loop decreases-loop (λ c. (going_start _ _, search putting-start)) (λ c κs. (c.loop.invariant.0.within, search needs, search needs))
+    (tie.spec invariant-loop decreases-loop (λ c. (going_start _ _, search putting-start)) (λ c κs. (c.loop-number.invariant.0.within, search needs, search needs))
     (search needs) (search needs) (search needs) (search needs) (λ c. search (refused, going-wrong)) (search needs) (search needs) (search needs)
     (search needs) (λ c. search (refused, going-open)) (search needs) (search needs) (search needs) (search needs)
     (λ c. search (written, going-whole, putting-end)) (search needs) (λ c κs. search stack-fits) (search needs) (search needs) (search needs)

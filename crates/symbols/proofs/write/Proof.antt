@@ -3,27 +3,27 @@ use Rattle.laws.proofs.Basics.{arith, needs}
 use Rattle.symbols.proofs.write.Tie as tie
 
 put-requires : tie.Need-put-requires
-put-requires c κs = let pre = c.before.before.before.requires in let h = rw c.before.if1.true at pre.0 in
+put-requires c κs = let pre = c.requires in let h = rw c.if-semicolon.true at pre.0 in
     (omega (arith, h), omega arith, omega arith, pre.3)
 
-put-requires-2 : tie.Need-put-requires-2
-put-requires-2 c κs = let first = c.before.before.before in let tested = first.before.before in let start = tested.before.before in
-    let args = start.args in let h = rw tested.if1.true at start.requires.0 in
-    let e = put-length args.scratch.now args.count 54 0 args.place (omega (arith, h)) first.put.ensures in
-    (omega (arith, h, e), start.requires.1, start.requires.2, start.requires.3)
+put-requires-2 : tie.Need-put-requires-then-semicolon
+put-requires-2 c κs =
+    let args = c.args in let h = rw c.if-semicolon.true at c.requires.0 in
+    let e = put-length args.scratch.now args.count 54 0 args.place (omega (arith, h)) c.put.ensures in
+    (omega (arith, h, e), c.requires.1, c.requires.2, c.requires.3)
 
-returns : tie.Need-returns
-returns c = let second = c.before.before in let first = second.before.before.before.before in let tested = first.before.before in
-    let one_more = tested.if1.true in
-    rw one_more (writes-two _ _ _ _ _ (rw one_more at tested.before.before.requires.0) first.put.ensures second.put2.ensures)
+returns : tie.Need-returns-then-semicolon
+returns c =
+    let one_more = c.if-semicolon.true in
+    rw one_more (writes-two _ _ _ _ _ (rw one_more at c.requires.0) c.put.ensures c.put-then-semicolon.ensures)
 
-put-requires-3 : tie.Need-put-requires-3
-put-requires-3 c κs = let pre = c.before.before.before.requires in let h = rw c.before.if1.false at pre.0 in
+put-requires-3 : tie.Need-put-requires-2
+put-requires-3 c κs = let pre = c.requires in let h = rw c.if-semicolon.false at pre.0 in
     (omega (arith, h), pre.1, pre.2, pre.3)
 
-returns-2 : tie.Need-returns-2
-returns-2 c = let tested = c.before.before.before.before in let no_more = tested.if1.false in
-    rw no_more (writes_one _ _ _ _ _ (rw no_more at tested.before.before.requires.0) c.before.before.put3.ensures)
+returns-2 : tie.Need-returns
+returns-2 c = let no_more = c.if-semicolon.false in
+    rw no_more (writes_one _ _ _ _ _ (rw no_more at c.requires.0) c.put-2.ensures)
 
 pub write_spec : {M : Type 1} → Rattle.symbols.proofs.write.Statement.statement M
 write_spec = tie.close

@@ -9,16 +9,16 @@ unfolding by_class as_element
 element_at_spec = tie.close
     (tie.spec (search needs) (λ c κs. search needs) (λ c κs. search needs) (λ c κs. search needs) (search needs) (λ c κs. search needs) (search needs)
     (λ c κs. search needs) (search needs) (λ c κs. search needs) (λ c κs. search needs)
-    (λ c. c.word_at.ensures ∙ ap as_element (of-class _ _ c.before.before.class_of.ensures 1 c.before.match.keys1))
-    (λ c. c.decimal-at.ensures ∙ ap as_element (of-class _ _ c.before.before.class_of.ensures 2 c.before.match.keys2))
-    (λ c. let called = c.before.before in
-    past_first octal _ called.before.before.before.args.at c.octal-at.ensures ∙
-    ap as_element (of-class _ _ called.class_of.ensures 4 c.before.match.keys3)) (λ c. let called = c.before.before in
-    past_first character _ called.before.before.before.args.at c.character-at.ensures ∙
-    ap as_element (of-class _ _ called.class_of.ensures 5 c.before.match.keys4)) (λ c. let called = c.before.before in
-    past_first string _ called.before.before.before.args.at c.string-at.ensures ∙
-    ap as_element (of-class _ _ called.class_of.ensures 6 c.before.match.keys5))
-    (λ c. c.sign-or-comment.ensures ∙ ap as_element (of-class _ _ c.before.before.class_of.ensures 7 c.before.match.keys6))
-    (λ c. ap as_element (of-class _ _ c.before.class_of.ensures 8 c.match.keys7))
-    (λ c. ap as_element (of-class _ _ c.before.class_of.ensures 9 c.match.keys8))
-    (λ c. ap as_element (no-class _ _ c.before.class_of.ensures c.match.rest)))
+    (λ c. c.word_at.ensures ∙ ap as_element (of-class _ _ c.class_of-class.ensures 1 c.in-1.is))
+    (λ c. c.decimal_at.ensures ∙ ap as_element (of-class _ _ c.class_of-class.ensures 2 c.in-2.is))
+    (λ c.
+    past_first octal _ c.args.at c.octal_at.ensures ∙
+    ap as_element (of-class _ _ c.class_of-class.ensures 4 c.in-4.is)) (λ c.
+    past_first character _ c.args.at c.character_at.ensures ∙
+    ap as_element (of-class _ _ c.class_of-class.ensures 5 c.in-5.is)) (λ c.
+    past_first string _ c.args.at c.string_at.ensures ∙
+    ap as_element (of-class _ _ c.class_of-class.ensures 6 c.in-6.is))
+    (λ c. c.sign_or_comment.ensures ∙ ap as_element (of-class _ _ c.class_of-class.ensures 7 c.in-7.is))
+    (λ c. ap as_element (of-class _ _ c.class_of-class.ensures 8 c.in-8.is))
+    (λ c. ap as_element (of-class _ _ c.class_of-class.ensures 9 c.in-9.is))
+    (λ c. ap as_element (no-class _ _ c.class_of-class.ensures c.in_default.in_default-own.rest)))

@@ -5,6 +5,6 @@ use Rattle.symbols.proofs.elements.sign_or_comment.Tie as tie
 
 pub sign_or_comment_spec : {M : Type 1} → Rattle.symbols.proofs.elements.sign_or_comment.Statement.statement M
 sign_or_comment_spec = tie.close (tie.spec (λ c κs. search needs) (λ c κs. search needs)
-    (λ c. c.comment-at.ensures ∙ ap as_element (sym (is-comment _ (sym c.before.before.begins-comment.ensures ∙ c.before.if1.true))))
+    (λ c. c.comment_at.ensures ∙ ap as_element (sym (is-comment _ (sym c.begins_comment.ensures ∙ c.if-begins_comment.true))))
     (λ c κs. search needs)
-    (λ c. c.sign_at.ensures ∙ ap as_element (sym (is-sign _ (sym c.before.before.begins-comment.ensures ∙ c.before.if1.false)))))
+    (λ c. c.sign_at.ensures ∙ ap as_element (sym (is-sign _ (sym c.begins_comment.ensures ∙ c.if-begins_comment.false)))))

@@ -3,10 +3,10 @@ use Rattle.laws.proofs.Cases.{holds, fails}
 use Rattle.symbols.proofs.Runs.{word-run, Running, run-starts, run_ends, run-stops, run-goes-on}
 use Rattle.symbols.proofs.elements.word_width.Tie as tie
 
-abbrev invariant-loop : tie.invariant-loop
+abbrev invariant-loop : tie.invariant-loop-i
 invariant-loop classes text at i₀ i = Running word-run text at i
 
-abbrev decreases-loop : tie.decreases-loop
+abbrev decreases-loop : tie.decreases-loop-i
 decreases-loop classes text at i₀ i = length text - i
 
 pub word_width_spec : {M : Type 1} → Rattle.symbols.proofs.elements.word_width.Statement.statement M
