@@ -38,7 +38,7 @@ pub(crate) fn by_constant(source: &[u8], s: &[u32], from: usize, end: usize, top
 }
 
 // Where the labels before a command stand.
-#[derive(Drop)]
+#[derive(Clone, Copy, Drop)]
 pub struct Span {
     pub from: usize,
     pub to: usize,

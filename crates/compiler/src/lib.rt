@@ -3,6 +3,8 @@
 // `symbols` and `tree` read the source into scratch. One walk of the tree then finds the names' meanings, the least refusal of 8 to 13,
 // heights and labels, and writes the text: `steps` has its single steps, `scope` the names in scope, `labels` the labels of a SWITCHON,
 // `walk` expressions and commands, `outer` a declaration's parts, `program` all declarations, `strings` what follows the functions.
+#![tactic(auto)]
+
 mod kinds;
 mod labels;
 mod outer;

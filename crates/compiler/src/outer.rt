@@ -18,7 +18,7 @@ use crate::walk::{command, expr};
 use writing::Base;
 
 // What is done, and the end of the names in scope.
-#[derive(Drop)]
+#[derive(Clone, Copy, Drop)]
 pub struct Known {
     pub top: usize,
     pub state: State,

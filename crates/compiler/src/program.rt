@@ -13,7 +13,7 @@ use crate::scope::entry;
 use crate::steps::{Here, State};
 
 // What is done, and the least refusal 16, as place * 32 + 16.
-#[derive(Drop)]
+#[derive(Clone, Copy, Drop)]
 pub struct Done {
     pub tall: usize,
     pub state: State,
@@ -76,7 +76,7 @@ fn group(
 }
 
 // Where the declarations stand: the end of the names in scope, how many functions there were, and what is done.
-#[derive(Drop)]
+#[derive(Clone, Copy, Drop)]
 pub struct Progress {
     pub top: usize,
     pub functions: usize,

@@ -24,7 +24,7 @@ use crate::scope::{entry, in_block, lookup, push_name};
 use writing::{Base, instruction, label, labelled};
 
 // What was done so far: bytes of text, labels, the least refusal as place * 32 + number, and the greatest height.
-#[derive(Drop)]
+#[derive(Clone, Copy, Drop)]
 pub struct State {
     pub at: usize,
     pub label: usize,
@@ -34,7 +34,7 @@ pub struct State {
 
 // Where the walk stands: the end of the names in scope, the height, how much deeper the tree may be, the first string's label, and
 // whether RETURN may stand.
-#[derive(Drop)]
+#[derive(Clone, Copy, Drop)]
 pub struct Here {
     pub top: usize,
     pub height: usize,
@@ -44,7 +44,7 @@ pub struct Here {
 }
 
 // The labels to which BREAK, LOOP, ENDCASE and RESULTIS go; 0 where there is none.
-#[derive(Drop)]
+#[derive(Clone, Copy, Drop)]
 pub struct Ways {
     pub after: usize,
     pub next: usize,
@@ -53,7 +53,7 @@ pub struct Ways {
 }
 
 // The end of the names in scope and the height after declarations, and what was done.
-#[derive(Drop)]
+#[derive(Clone, Copy, Drop)]
 pub struct Placed {
     pub top: usize,
     pub height: usize,
@@ -61,7 +61,7 @@ pub struct Placed {
 }
 
 // A constant's word, with no refusal (number 0), or a refusal and its place, with the word 0.
-#[derive(Drop)]
+#[derive(Clone, Copy, Drop)]
 pub struct Verdict {
     pub word: usize,
     pub number: usize,
@@ -69,7 +69,7 @@ pub struct Verdict {
 }
 
 // A node: where it starts, where what stands before its record ends, and the record.
-#[derive(Drop)]
+#[derive(Clone, Copy, Drop)]
 pub struct Node {
     pub start: usize,
     pub inner: usize,

@@ -34,7 +34,7 @@ use crate::steps::{
 use writing::Base;
 
 // An expression's value into A.
-#[cycle(address_applied_args_assign_bare_block_cases_chain_command_expr_for_to_form_forms_indexed_list_local_locals_located_monadic_passed_plain_refuse_repeated_side_stored_switch_test_when_while_do)]
+#[cycle(walk)]
 pub(crate) fn expr(
     source: &[u8],
     s: &mut [u32],
@@ -84,7 +84,7 @@ pub(crate) fn expr(
 }
 
 // Operators of one binding level with their right operands, after the first operand.
-#[cycle(address_applied_args_assign_bare_block_cases_chain_command_expr_for_to_form_forms_indexed_list_local_locals_located_monadic_passed_plain_refuse_repeated_side_stored_switch_test_when_while_do)]
+#[cycle(walk)]
 fn chain(
     source: &[u8],
     s: &mut [u32],
@@ -112,7 +112,7 @@ fn chain(
 }
 
 // Arguments and first values: each into the word of its height.
-#[cycle(address_applied_args_assign_bare_block_cases_chain_command_expr_for_to_form_forms_indexed_list_local_locals_located_monadic_passed_plain_refuse_repeated_side_stored_switch_test_when_while_do)]
+#[cycle(walk)]
 fn args(
     source: &[u8],
     s: &mut [u32],
@@ -140,7 +140,7 @@ fn args(
 
 // A primary, which ends at `middle`, and what follows it, from the last one in. It calls itself as often as there are suffixes, so its
 // own frame is small: what stands around a call is in functions of its own.
-#[cycle(address_applied_args_assign_bare_block_cases_chain_command_expr_for_to_form_forms_indexed_list_local_locals_located_monadic_passed_plain_refuse_repeated_side_stored_switch_test_when_while_do)]
+#[cycle(walk)]
 fn applied(
     source: &[u8],
     s: &mut [u32],
@@ -170,7 +170,7 @@ fn applied(
 }
 
 // The word at an index, which ends there, of what is in A.
-#[cycle(address_applied_args_assign_bare_block_cases_chain_command_expr_for_to_form_forms_indexed_list_local_locals_located_monadic_passed_plain_refuse_repeated_side_stored_switch_test_when_while_do)]
+#[cycle(walk)]
 fn indexed(
     source: &[u8],
     s: &mut [u32],
@@ -188,7 +188,7 @@ fn indexed(
 }
 
 // The arguments of a call, above its two link words.
-#[cycle(address_applied_args_assign_bare_block_cases_chain_command_expr_for_to_form_forms_indexed_list_local_locals_located_monadic_passed_plain_refuse_repeated_side_stored_switch_test_when_while_do)]
+#[cycle(walk)]
 fn passed(
     source: &[u8],
     s: &mut [u32],
@@ -206,7 +206,7 @@ fn passed(
 }
 
 // An operand with a monadic operator before it.
-#[cycle(address_applied_args_assign_bare_block_cases_chain_command_expr_for_to_form_forms_indexed_list_local_locals_located_monadic_passed_plain_refuse_repeated_side_stored_switch_test_when_while_do)]
+#[cycle(walk)]
 fn monadic(
     source: &[u8],
     s: &mut [u32],
@@ -234,7 +234,7 @@ fn monadic(
 }
 
 // The address of what @ may take; 10 at that place where it may not.
-#[cycle(address_applied_args_assign_bare_block_cases_chain_command_expr_for_to_form_forms_indexed_list_local_locals_located_monadic_passed_plain_refuse_repeated_side_stored_switch_test_when_while_do)]
+#[cycle(walk)]
 fn address(
     source: &[u8],
     s: &mut [u32],
@@ -267,7 +267,7 @@ fn address(
 }
 
 // What is neither assigned to nor taken by @: its own refusals, and 10 at that place.
-#[cycle(address_applied_args_assign_bare_block_cases_chain_command_expr_for_to_form_forms_indexed_list_local_locals_located_monadic_passed_plain_refuse_repeated_side_stored_switch_test_when_while_do)]
+#[cycle(walk)]
 fn refuse(
     source: &[u8],
     s: &mut [u32],
@@ -285,7 +285,7 @@ fn refuse(
 }
 
 // The address of a word at an index.
-#[cycle(address_applied_args_assign_bare_block_cases_chain_command_expr_for_to_form_forms_indexed_list_local_locals_located_monadic_passed_plain_refuse_repeated_side_stored_switch_test_when_while_do)]
+#[cycle(walk)]
 fn located(
     source: &[u8],
     s: &mut [u32],
@@ -308,7 +308,7 @@ fn located(
 }
 
 // From a right side in A to its left side; 10 at that place where it is none.
-#[cycle(address_applied_args_assign_bare_block_cases_chain_command_expr_for_to_form_forms_indexed_list_local_locals_located_monadic_passed_plain_refuse_repeated_side_stored_switch_test_when_while_do)]
+#[cycle(walk)]
 fn side(
     source: &[u8],
     s: &mut [u32],
@@ -343,7 +343,7 @@ fn side(
 }
 
 // A goes to a word at an index.
-#[cycle(address_applied_args_assign_bare_block_cases_chain_command_expr_for_to_form_forms_indexed_list_local_locals_located_monadic_passed_plain_refuse_repeated_side_stored_switch_test_when_while_do)]
+#[cycle(walk)]
 fn stored(source: &[u8], s: &mut [u32], end: usize, text: &mut [u8], here: Here, st: State) -> State
     requires { ReadyE s.old end (raised 1 here) st × IndexKind s.old end }
     ensures { GaveSideIndex source.now s.old s.new end here text.old text.new st result }
@@ -360,7 +360,7 @@ fn stored(source: &[u8], s: &mut [u32], end: usize, text: &mut [u8], here: Here,
 }
 
 // The sides of an assignment: each right side, then its left side. The first left side ends at `left`; the right sides start at `right`.
-#[cycle(address_applied_args_assign_bare_block_cases_chain_command_expr_for_to_form_forms_indexed_list_local_locals_located_monadic_passed_plain_refuse_repeated_side_stored_switch_test_when_while_do)]
+#[cycle(walk)]
 fn assign(
     source: &[u8],
     s: &mut [u32],
@@ -390,7 +390,7 @@ fn assign(
 }
 
 // A declaration of locals.
-#[cycle(address_applied_args_assign_bare_block_cases_chain_command_expr_for_to_form_forms_indexed_list_local_locals_located_monadic_passed_plain_refuse_repeated_side_stored_switch_test_when_while_do)]
+#[cycle(walk)]
 fn local(source: &[u8], s: &mut [u32], end: usize, text: &mut [u8], here: Here, st: State) -> Placed
     requires { ReadyLocal s.old end here st }
     ensures { GaveLocal source.now s.old s.new end here text.old text.new st result }
@@ -410,7 +410,7 @@ fn local(source: &[u8], s: &mut [u32], end: usize, text: &mut [u8], here: Here, 
 }
 
 // Declarations of locals, one after another.
-#[cycle(address_applied_args_assign_bare_block_cases_chain_command_expr_for_to_form_forms_indexed_list_local_locals_located_monadic_passed_plain_refuse_repeated_side_stored_switch_test_when_while_do)]
+#[cycle(walk)]
 fn locals(
     source: &[u8],
     s: &mut [u32],
@@ -440,7 +440,7 @@ fn locals(
 }
 
 // A list of commands.
-#[cycle(address_applied_args_assign_bare_block_cases_chain_command_expr_for_to_form_forms_indexed_list_local_locals_located_monadic_passed_plain_refuse_repeated_side_stored_switch_test_when_while_do)]
+#[cycle(walk)]
 fn list(
     source: &[u8],
     s: &mut [u32],
@@ -466,7 +466,7 @@ fn list(
 }
 
 // A block: its locals, then its commands.
-#[cycle(address_applied_args_assign_bare_block_cases_chain_command_expr_for_to_form_forms_indexed_list_local_locals_located_monadic_passed_plain_refuse_repeated_side_stored_switch_test_when_while_do)]
+#[cycle(walk)]
 fn block(
     source: &[u8],
     s: &mut [u32],
@@ -497,7 +497,7 @@ fn block(
 }
 
 // A command with its labels and REPEAT forms. Its labels stand before no command of a list after INTO itself.
-#[cycle(address_applied_args_assign_bare_block_cases_chain_command_expr_for_to_form_forms_indexed_list_local_locals_located_monadic_passed_plain_refuse_repeated_side_stored_switch_test_when_while_do)]
+#[cycle(walk)]
 pub(crate) fn command(
     source: &[u8],
     s: &mut [u32],
@@ -519,7 +519,7 @@ pub(crate) fn command(
 }
 
 // The same, whose labels are judged already.
-#[cycle(address_applied_args_assign_bare_block_cases_chain_command_expr_for_to_form_forms_indexed_list_local_locals_located_monadic_passed_plain_refuse_repeated_side_stored_switch_test_when_while_do)]
+#[cycle(walk)]
 fn bare(
     source: &[u8],
     s: &mut [u32],
@@ -544,7 +544,7 @@ fn bare(
 
 // A command with its REPEAT forms: three labels each, the outermost form's first. All top labels stand before the command, the forms
 // after it.
-#[cycle(address_applied_args_assign_bare_block_cases_chain_command_expr_for_to_form_forms_indexed_list_local_locals_located_monadic_passed_plain_refuse_repeated_side_stored_switch_test_when_while_do)]
+#[cycle(walk)]
 fn repeated(
     source: &[u8],
     s: &mut [u32],
@@ -579,7 +579,7 @@ fn repeated(
 }
 
 // REPEAT forms, from the innermost out, whose labels start at `innermost`.
-#[cycle(address_applied_args_assign_bare_block_cases_chain_command_expr_for_to_form_forms_indexed_list_local_locals_located_monadic_passed_plain_refuse_repeated_side_stored_switch_test_when_while_do)]
+#[cycle(walk)]
 fn forms(
     source: &[u8],
     s: &mut [u32],
@@ -611,7 +611,7 @@ fn forms(
 }
 
 // The jump back of a form, after its condition of so many entries; REPEAT alone has none.
-#[cycle(address_applied_args_assign_bare_block_cases_chain_command_expr_for_to_form_forms_indexed_list_local_locals_located_monadic_passed_plain_refuse_repeated_side_stored_switch_test_when_while_do)]
+#[cycle(walk)]
 fn form(
     source: &[u8],
     s: &mut [u32],
@@ -635,7 +635,7 @@ fn form(
 }
 
 // A command without labels and REPEAT forms.
-#[cycle(address_applied_args_assign_bare_block_cases_chain_command_expr_for_to_form_forms_indexed_list_local_locals_located_monadic_passed_plain_refuse_repeated_side_stored_switch_test_when_while_do)]
+#[cycle(walk)]
 fn plain(
     source: &[u8],
     s: &mut [u32],
@@ -679,7 +679,7 @@ fn plain(
 }
 
 // IF or UNLESS.
-#[cycle(address_applied_args_assign_bare_block_cases_chain_command_expr_for_to_form_forms_indexed_list_local_locals_located_monadic_passed_plain_refuse_repeated_side_stored_switch_test_when_while_do)]
+#[cycle(walk)]
 fn when(
     source: &[u8],
     s: &mut [u32],
@@ -702,7 +702,7 @@ fn when(
 }
 
 // TEST: the command after OR at the first label, the end at the second.
-#[cycle(address_applied_args_assign_bare_block_cases_chain_command_expr_for_to_form_forms_indexed_list_local_locals_located_monadic_passed_plain_refuse_repeated_side_stored_switch_test_when_while_do)]
+#[cycle(walk)]
 fn test(
     source: &[u8],
     s: &mut [u32],
@@ -729,7 +729,7 @@ fn test(
 }
 
 // WHILE or UNTIL: the test at the first label, the end at the second.
-#[cycle(address_applied_args_assign_bare_block_cases_chain_command_expr_for_to_form_forms_indexed_list_local_locals_located_monadic_passed_plain_refuse_repeated_side_stored_switch_test_when_while_do)]
+#[cycle(walk)]
 fn while_do(
     source: &[u8],
     s: &mut [u32],
@@ -762,7 +762,7 @@ fn while_do(
 }
 
 // FOR: its test at the first label, its step at the second, its end at the third.
-#[cycle(address_applied_args_assign_bare_block_cases_chain_command_expr_for_to_form_forms_indexed_list_local_locals_located_monadic_passed_plain_refuse_repeated_side_stored_switch_test_when_while_do)]
+#[cycle(walk)]
 fn for_to(
     source: &[u8],
     s: &mut [u32],
@@ -803,7 +803,7 @@ fn for_to(
 }
 
 // SWITCHON: its end at the first label after those of its value, then a label for each command of the list.
-#[cycle(address_applied_args_assign_bare_block_cases_chain_command_expr_for_to_form_forms_indexed_list_local_locals_located_monadic_passed_plain_refuse_repeated_side_stored_switch_test_when_while_do)]
+#[cycle(walk)]
 fn switch(
     source: &[u8],
     s: &mut [u32],
@@ -848,7 +848,7 @@ fn switch(
 }
 
 // The commands of the list after INTO, each with its label in front.
-#[cycle(address_applied_args_assign_bare_block_cases_chain_command_expr_for_to_form_forms_indexed_list_local_locals_located_monadic_passed_plain_refuse_repeated_side_stored_switch_test_when_while_do)]
+#[cycle(walk)]
 fn cases(
     source: &[u8],
     s: &mut [u32],

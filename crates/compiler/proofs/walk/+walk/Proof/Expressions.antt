@@ -1,7 +1,7 @@
 -- An expression, operators of one binding level, a monadic operator.
 use Rattle.compiler.proofs as proofs
 use proofs.steps as steps
-use Rattle.compiler.proofs.walk.+address_applied_args_assign_bare_block_cases_chain_command_expr_for_to_form_forms_indexed_list_local_locals_located_monadic_passed_plain_refuse_repeated_side_stored_switch_test_when_while_do as cycle
+use Rattle.compiler.proofs.walk.+walk as cycle
 use Rattle.code.specs.Generate.{expr_code, expr_labels, monadic_act}
 use Rattle.language.specs.Heights.{of_expr}
 use Rattle.laws.proofs.Basics.{ℕ, ◌-◌, ◌≡◌, refl, ◌∙◌, length, arith, needs}

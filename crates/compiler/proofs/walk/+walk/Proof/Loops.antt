@@ -1,7 +1,7 @@
 -- WHILE, FOR, and a command with REPEAT forms.
 use Rattle.compiler.proofs as proofs
 use proofs.steps as steps
-use Rattle.compiler.proofs.walk.+address_applied_args_assign_bare_block_cases_chain_command_expr_for_to_form_forms_indexed_list_local_locals_located_monadic_passed_plain_refuse_repeated_side_stored_switch_test_when_while_do as cycle
+use Rattle.compiler.proofs.walk.+walk as cycle
 use Rattle.compiler.specs.Commands.{ReadyForms}
 use Rattle.compiler.proofs.Fors.{for-room, for-first, for-limit, for-name-fine, for-body, for-gave}
 use Rattle.compiler.proofs.Conditions.{while-test, while-body, while-gave}

@@ -1,7 +1,7 @@
 -- A command: its labels, and then by its kind.
 use Rattle.compiler.proofs as proofs
 use proofs.steps as steps
-use Rattle.compiler.proofs.walk.+address_applied_args_assign_bare_block_cases_chain_command_expr_for_to_form_forms_indexed_list_local_locals_located_monadic_passed_plain_refuse_repeated_side_stored_switch_test_when_while_do as cycle
+use Rattle.compiler.proofs.walk.+walk as cycle
 use Rattle.compiler.proofs.Labelled.{labelled-labels, labelled-bare, labelled-gave, unlabelled-gave, bare-empty, labelled-rest}
 use Rattle.compiler.proofs.Labelled.{bare-labelled, bare-part, bare-gave, command-some, gave-r-at}
 use Rattle.compiler.proofs.Conditions.{while-while, while-until}

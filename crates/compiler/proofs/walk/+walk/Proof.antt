@@ -7,7 +7,7 @@ mod Loops
 mod Choices
 mod Blocks
 mod Commands
-use Rattle.compiler.proofs.walk.+address_applied_args_assign_bare_block_cases_chain_command_expr_for_to_form_forms_indexed_list_local_locals_located_monadic_passed_plain_refuse_repeated_side_stored_switch_test_when_while_do as cycle
+use Rattle.compiler.proofs.walk.+walk as cycle
 use cycle.{statement}
 use cycle.Tie.{close}
 use Ranks.{rank, address, applied, args, assign, bare, block, cases, chain, command, expr, for-to, form, forms, indexed, list, local, locals}
@@ -21,8 +21,8 @@ use Blocks.{block-ok, list-ok, local-ok, locals-ok}
 use Commands.{command-ok, bare-ok, plain_ok}
 
 pub
-    +address_applied_args_assign_bare_block_cases_chain_command_expr_for_to_form_forms_indexed_list_local_locals_located_monadic_passed_plain_refuse_repeated_side_stored_switch_test_when_while_do_spec : {M : Type 1} → statement M
-+address_applied_args_assign_bare_block_cases_chain_command_expr_for_to_form_forms_indexed_list_local_locals_located_monadic_passed_plain_refuse_repeated_side_stored_switch_test_when_while_do_spec =
+    +walk_spec : {M : Type 1} → statement M
++walk_spec =
     close (rank address).measure (rank applied).measure (rank args).measure (rank assign).measure (rank bare).measure (rank block).measure
     (rank cases).measure (rank chain).measure (rank command).measure (rank expr).measure (rank for-to).measure (rank form).measure
     (rank forms).measure (rank indexed).measure (rank list).measure (rank local).measure (rank locals).measure (rank located).measure
