@@ -3,24 +3,24 @@ use Rattle.compiler.specs.Labels.{CommandAt, Listed, Sound, Still, flat}
 use Rattle.compiler.proofs.Switching.{still-here, still-then, TablePart, table-begin, table-next, table-end}
 use Rattle.compiler.proofs.labels.all_pairs.Tie as tie
 
-abbrev invariant-loop : tie.invariant-loop
+abbrev invariant-loop : tie.invariant-loop-at
 invariant-loop source s from end top text₀ first at₀ k₀ r₀ text at k r = (length text ≡ length text₀) × Still r₀ r × (k ≤ first + at) ×
     ((y : Listed (CommandAt s) s from end top) → Sound source y.scope (flat y.all) → TablePart source first text₀ r₀ y text at k r)
 
 pub all_pairs_spec : {M : Type 1} → Rattle.compiler.proofs.labels.all_pairs.Statement.statement M
 all_pairs_spec =
     tie.close (tie.spec invariant-loop (λ source s from end top text₀ first at₀ k₀ r₀ text at k r. end - at) (λ c. search (needs, still-here, table-begin))
-    (search needs) (λ c κs. omega arith) (λ c _. c.before.labels-of.ensures.small) (λ c. omega arith) (λ c. omega arith)
+    (search needs) (λ c κs. omega arith) (λ c _. c.labels_of-l.ensures.small) (λ c. omega arith) (λ c. omega arith)
     -- loop-again
     (λ c. (
       omega arith,
       search still-then,
       omega arith,
-      (let after-labels-of = c.before.before.before.before in
-          let after-next-item = after-labels-of.before in let after-loop-test = after-next-item.before in
-          let after-loop = after-loop-test.before in λ y so. table-next _ _ _ _ after-loop-test.loop-test.true
-          after-next-item.next-item.ensures after-labels-of.labels-of.ensures c.before.before.pairs.ensures y
-          (after-loop.loop.invariant.3 y so)),
+      (let after-labels-of = c in
+          let after-next-item = after-labels-of in let after-loop-test = after-next-item in
+          let after-loop = after-loop-test in λ y so. table-next _ _ _ _ after-loop-test.loop-at-test.true
+          after-next-item.next_item-next.ensures after-labels-of.labels_of-l.ensures c.pairs-r.ensures y
+          (after-loop.loop-at.invariant.3 y so)),
     )) (search needs)
-    (λ c. let start = c.before.before.before.before.before in
-    table-end _ _ _ start.args.st _ c.loop-test.false c.before.loop.invariant.1 c.before.loop.invariant.3))
+    (λ c. let start = c in
+    table-end _ _ _ start.args.st _ c.loop-at-test.false c.loop-at.invariant.1 c.loop-at.invariant.3))

@@ -4,5 +4,5 @@ use Rattle.compiler.proofs.labels.by_constant.Tie as tie
 
 pub by_constant_spec : {M : Type 1} → Rattle.compiler.proofs.labels.by_constant.Statement.statement M
 by_constant_spec = tie.close (tie.spec (λ c. search by-none) (search needs)
-    (λ c. by-judged _ c.before.before.before.if1.false c.before.before.judge.ensures (λ e w. c.if2.true e)) (λ c. search by-judged)
+    (λ c. by-judged _ c.if-end-from.false c.judge-j.ensures (λ e w. c.if-j-ne0.true e)) (λ c. search by-judged)
     (search needs) (search needs) (λ c. search by_zero))

@@ -4,7 +4,7 @@ use Rattle.compiler.specs.Labels.{LabelAt, Listed, Marks}
 use Rattle.compiler.proofs.Doubling.{OwnPart, own-begin, own-next, own-end}
 use Rattle.compiler.proofs.labels.doubled_in.Tie as tie
 
-abbrev invariant-loop : tie.invariant-loop
+abbrev invariant-loop : tie.invariant-loop-at
 invariant-loop source s from end top seen₀ at₀ r₀ seen at r = (length seen ≡ length seen₀) ×
     ((y : Listed (LabelAt s) s from end top) (first : List Label) → Marks seen₀ (labels_of source y.scope first) → OwnPart source r₀ y first seen
     at r)
@@ -13,9 +13,9 @@ pub doubled_in_spec : {M : Type 1} → Rattle.compiler.proofs.labels.doubled_in.
 doubled_in_spec = tie.close (tie.spec invariant-loop (λ source s from end top seen₀ at₀ r₀ seen at r. end - at) (λ c. (refl, λ y first m. search own-begin))
     (search needs) (λ c κs. omega arith) (λ c. omega arith)
     -- loop-again
-    (λ c. let after-next-item = c.before.before.before.before in let after-loop-test = after-next-item.before in
-    let after-loop = after-loop-test.before in let start = after-loop.before.before.before.before in (
+    (λ c. let after-next-item = c in let after-loop-test = after-next-item in
+    let after-loop = after-loop-test in let start = after-loop in (
       omega arith,
-      λ y first m. own-next _ start.args.st after-loop-test.loop-test.true after-next-item.next-item.ensures
-          c.before.before.doubled-label.ensures y first (after-loop.loop.invariant.1 y first m),
+      λ y first m. own-next _ start.args.st after-loop-test.loop-at-test.true after-next-item.next_item-next.ensures
+          c.doubled_label-r.ensures y first (after-loop.loop-at.invariant.1 y first m),
     )) (search needs) (λ c. search own-end))

@@ -3,7 +3,7 @@ use Rattle.compiler.specs.Labels.{LabelAt, Listed, Sound, Still}
 use Rattle.compiler.proofs.Switching.{still-here, still-then, PairsPart, pairs-begin, pairs_next, pairs_end}
 use Rattle.compiler.proofs.labels.pairs.Tie as tie
 
-abbrev invariant-loop : tie.invariant-loop
+abbrev invariant-loop : tie.invariant-loop-at
 invariant-loop source s from end top text₀ k at₀ r₀ text at r = (length text ≡ length text₀) × Still r₀ r ×
     ((y : Listed (LabelAt s) s from end top) → Sound source y.scope y.all → PairsPart source k text₀ r₀ y text at r)
 
@@ -15,7 +15,7 @@ pairs_spec =
     (λ c. (
       omega arith,
       search still-then,
-      (let after-next-item = c.before.before.before.before in let after-loop-test = after-next-item.before in
-          let after-loop = after-loop-test.before in λ y so. pairs_next _ _ _ _ after-loop-test.loop-test.true
-          after-next-item.next-item.ensures c.before.before.pair.ensures y (after-loop.loop.invariant.2 y so)),
+      (let after-next-item = c in let after-loop-test = after-next-item in
+          let after-loop = after-loop-test in λ y so. pairs_next _ _ _ _ after-loop-test.loop-at-test.true
+          after-next-item.next_item-next.ensures c.pair-r.ensures y (after-loop.loop-at.invariant.2 y so)),
     )) (search needs) (λ c. search pairs_end))

@@ -2,7 +2,7 @@ use Rattle.laws.proofs.Basics.{◌-◌, ◌≤◌, arith, needs}
 use Rattle.compiler.proofs.FunctionCounts.{Counted, counted-begin, counted-group, counted-past, counted-other, counted-end}
 use Rattle.compiler.proofs.outer.function_count.Tie as tie
 
-abbrev invariant-loop : tie.invariant-loop
+abbrev invariant-loop : tie.invariant-loop-at
 invariant-loop s from end at₀ n₀ at n = (n ≤ at) × Counted s from end at n
 
 pub function_count_spec : {M : Type 1} → Rattle.compiler.proofs.outer.function_count.Statement.statement M

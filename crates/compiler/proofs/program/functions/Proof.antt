@@ -6,8 +6,8 @@ use Rattle.compiler.proofs.program.functions.Tie as tie
 pub functions_spec : {M : Type 1} → Rattle.compiler.proofs.program.functions.Statement.statement M
 functions_spec =
     tie.close (tie.spec (search needs) (λ c κs. search ready-group) (search needs) (search needs) (λ c κs. (search ready-fs, omega arith))
-    (λ c. let counted : tie.After-group-count = search in let start : tie.Start = search in omega arith) (search needs) (search needs) (search needs)
+    (λ c. let counted : tie.After-group_count-n = search in let start : tie.Start = search in omega arith) (search needs) (search needs) (search needs)
     -- returns
-    (λ c. let named : tie.After-group-names = search in let counted : tie.After-group-count = search in
-    gave-group counted.group-count.ensures.0 named.group-names.ensures
-    c.before.before.before.before.before.before.before.level.ensures (search)))
+    (λ c. let named : tie.After-group_names-k = search in let counted : tie.After-group_count-n = search in
+    gave-group counted.group_count-n.ensures.0 named.group_names-k.ensures
+    c.level.ensures (search)))

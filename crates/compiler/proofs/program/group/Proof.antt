@@ -5,7 +5,7 @@ use Rattle.compiler.specs.Groups.{ReadyFs}
 use Rattle.compiler.proofs.FunctionLists.{GroupPart, group-begin, group-ready, group-fits, group-next, group-end}
 use Rattle.compiler.proofs.program.group.Tie as tie
 
-abbrev invariant-loop : tie.invariant-loop
+abbrev invariant-loop : tie.invariant-loop-at
 invariant-loop source s₀ from end text₀ here label at₀ l₀ r₀ tall₀ s text at l r tall = (length s ≡ length s₀) × (length text ≡ length text₀)
     × ((y : ReadyFs s₀ from end here (record { tall = tall₀; state = r₀ })) (before : Scope) (k : ℕ)
     → GroupPart source text₀ label (record { tall = tall₀; state = r₀ }) y before k s text at l (record { tall = tall; state = r }))
@@ -14,25 +14,25 @@ pub group_spec : {M : Type 1} → Rattle.compiler.proofs.program.group.Statement
 group_spec = tie.close (tie.spec invariant-loop (λ source s₀ from end text₀ here label at₀ l₀ r₀ tall₀ s text at l r tall. end - at)
     (λ c. (refl, refl, λ y before k. search group-begin)) (λ c. omega arith) (search needs) (λ c. omega arith)
     -- function-requires
-    (λ c κs. let after-loop-test = c.before.before.before.before in let after-loop = after-loop-test.before in
-    let start = after-loop.before.before.before.before.before in
-    group-ready _ _ _ _ after-loop-test.loop-test.true c.before.before.entry.ensures.0 refl start.requires.0
-    (after-loop.loop.invariant.2 start.requires.0 outermost 0))
-    (λ c. omega arith) (search needs) (λ c _. c.entry2.ensures.1) (search needs)
+    (λ c κs. let after-loop-test = c in let after-loop = after-loop-test in
+    let start = after-loop in
+    group-ready _ _ _ _ after-loop-test.loop-at-test.true c.entry.ensures.0 refl start.requires.0
+    (after-loop.loop-at.invariant.2 start.requires.0 outermost 0))
+    (λ c. omega arith) (search needs) (λ c _. c.entry-place.ensures.1) (search needs)
     -- add-l
-    (λ c. let after-entry = c.before.before.before.before.before.before.before.before.before.before.before in
-    let after-loop-test = after-entry.before.before in let after-loop = after-loop-test.before in
-    let start = after-loop.before.before.before.before.before in
-    let fits = group-fits _ _ _ _ after-loop-test.loop-test.true after-entry.entry.ensures.0 refl start.requires.0
-    (after-loop.loop.invariant.2 start.requires.0 outermost 0) in omega arith)
+    (λ c. let after-entry = c in
+    let after-loop-test = after-entry in let after-loop = after-loop-test in
+    let start = after-loop in
+    let fits = group-fits _ _ _ _ after-loop-test.loop-at-test.true after-entry.entry.ensures.0 refl start.requires.0
+    (after-loop.loop-at.invariant.2 start.requires.0 outermost 0) in omega arith)
     (λ c. omega arith)
     -- loop-again
-    (λ c. let after-function = c.before.before.before.before.before.before.before.before in
-    let after-entry = after-function.before.before.before in let after-loop-test = after-entry.before.before in
-    let after-loop = after-loop-test.before in (
+    (λ c. let after-function = c in
+    let after-entry = after-function in let after-loop-test = after-entry in
+    let after-loop = after-loop-test in (
       omega arith,
       omega arith,
-      λ y before k. group-next _ _ _ _ after-loop-test.loop-test.true after-entry.entry.ensures.0 refl y
-          (after-loop.loop.invariant.2 y before k) after-function.function.ensures c.before.before.entry2.ensures.0
-          c.before.before.entry2.ensures.1 c.before.too-tall.ensures c.level.ensures,
-    )) (search needs) (search needs) (λ c. group-end _ _ _ _ c.loop-test.false c.before.loop.invariant.2))
+      λ y before k. group-next _ _ _ _ after-loop-test.loop-at-test.true after-entry.entry.ensures.0 refl y
+          (after-loop.loop-at.invariant.2 y before k) after-function.function-a.ensures c.entry-place.ensures.0
+          c.entry-place.ensures.1 c.too_tall-tall.ensures c.level-r.ensures,
+    )) (search needs) (search needs) (λ c. group-end _ _ _ _ c.loop-at-test.false c.loop-at.invariant.2))

@@ -7,8 +7,8 @@ pub named_spec : {M : Type 1} → Rattle.compiler.proofs.program.named.Statement
 named_spec = tie.close (tie.spec (λ c κs. search needs) (λ c κs. search needs) (λ c. search needs)
     -- returns
     (λ c. record {
-      known = items-flat c.before.before.before.before.before.before.before.requires.1 c.level.ensures
-          c.before.before.before.items.ensures;
+      known = items-flat c.requires.1 c.level.ensures
+          c.items-k.ensures;
       low = rw c.level.ensures;
       functions = refl;
       tall = refl;

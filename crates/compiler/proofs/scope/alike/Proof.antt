@@ -5,10 +5,10 @@ use Rattle.compiler.proofs.scope.alike.Tie as tie
 pub alike_spec : {M : Type 1} → Rattle.compiler.proofs.scope.alike.Statement.statement M
 alike_spec =
     tie.close (tie.spec (λ c. omega arith) (λ c κs. omega arith) (λ c. search needs) (λ c. omega arith) (λ c κs. omega arith) (λ c. search needs)
-    (λ c. omega arith) (λ c. omega arith) (λ c. omega arith) (λ c. let byte = c.before.before.before.before.shared-slice-known.given
-    (c.before.before.before.before.before.args.p + (c.before.before.before.before.before.args.n - 1)) in omega arith)
+    (λ c. omega arith) (λ c. omega arith) (λ c. omega arith) (λ c. let byte = c.shared_slice_known-1.given
+    (c.args.p + (c.args.n - 1)) in omega arith)
     -- returns-3
-    (λ c. (let start = c.before.before.before.before.before.before in
+    (λ c. (let start = c in
     differs start.args.source.now start.args.p start.args.q start.args.n (omega arith) (omega arith) (omega arith)
-    (λ e. c.if4.true (e ∙ sym start.requires.3))))
+    (λ e. c.if-source-p-2.true (e ∙ sym start.requires.3))))
     (λ c κs. omega arith) (λ c. search needs))

@@ -4,40 +4,40 @@ use Rattle.compiler.specs.Scope.{Shows, name_at, found}
 use Rattle.compiler.proofs.Scoping.{shows_low, Left, left-all, left-then, in-outer, in-open, in-other, in-found}
 use Rattle.compiler.proofs.scope.in_block.Tie as tie
 
-abbrev invariant-loop : tie.invariant-loop
+abbrev invariant-loop : tie.invariant-loop-at
 invariant-loop source s top leaf width place last at₀ at =
     (at ≤ top) × ((sc : Scope) → Shows s top sc → Left (λ (k : Scope). in_block source k (name_at s leaf)) s at sc)
 
 pub in_block_spec : {M : Type 1} → Rattle.compiler.proofs.scope.in_block.Statement.statement M
 unfolding found
 in_block_spec = tie.close (tie.spec invariant-loop (λ source s top leaf width place last at₀ at. at)
-    (λ c. record { by = λ sc h. absurd (omega (arith, c.if1.true, shows_low h)) }) (search needs) (search needs) (search needs) (search needs)
-    (λ c _. (c.entry2.ensures.1, c.before.entry.ensures.1)) (λ c. (omega arith, λ sc h. left-all _ sc h)) (λ c. omega arith)
+    (λ c. record { by = λ sc h. absurd (omega (arith, c.if-s-top.true, shows_low h)) }) (search needs) (search needs) (search needs) (search needs)
+    (λ c _. (c.entry-place.ensures.1, c.entry-width.ensures.1)) (λ c. (omega arith, λ sc h. left-all _ sc h)) (λ c. omega arith)
     (λ c κs. omega arith)
     -- returns-2
-    (λ c. let after-loop = c.before.before.before in let start = after-loop.before.before.before.before.before.before.before in
+    (λ c. let after-loop = c in let start = after-loop in
     record {
-      by = λ sc h. let l = after-loop.loop.invariant.1 sc h in sym (ap found (l.same ∙ in-open _ _ start.args.leaf _
-          c.before.before.loop-test.true c.before.stacked.ensures.0 l.shows c.if2.true));
+      by = λ sc h. let l = after-loop.loop-at.invariant.1 sc h in sym (ap found (l.same ∙ in-open _ _ start.args.leaf _
+          c.loop-at-test.true c.stacked-m.ensures.0 l.shows c.if-m-eq0.true));
     })
     (λ c κs. omega arith) (λ c κs. omega arith)
     -- returns-3
-    (λ c. let after-if2 = c.before.before.before in let after-stacked = after-if2.before in let after-loop-test = after-stacked.before in
-    let after-loop = after-loop-test.before in let after-entry2 = after-loop.before.before in let after-entry = after-entry2.before in
+    (λ c. let after-if2 = c in let after-stacked = after-if2 in let after-loop-test = after-stacked in
+    let after-loop = after-loop-test in let after-entry2 = after-loop in let after-entry = after-entry2 in
     record {
-      by = λ sc h. let l = after-loop.loop.invariant.1 sc h in in-found _ _ _ _ after-loop-test.loop-test.true
-          after-stacked.stacked.ensures.0 after-if2.if2.false c.before.before.stacked2.ensures.0 after-entry.entry.ensures.0
-          after-entry2.entry2.ensures.0 l.shows (sym c.if3.true ∙ c.before.spelt.ensures) ∙ ap found (sym l.same);
+      by = λ sc h. let l = after-loop.loop-at.invariant.1 sc h in in-found _ _ _ _ after-loop-test.loop-at-test.true
+          after-stacked.stacked-m.ensures.0 after-if2.if-m-eq0.false c.stacked.ensures.0 after-entry.entry-width.ensures.0
+          after-entry2.entry-place.ensures.0 l.shows (sym c.if-spelt.true ∙ c.spelt.ensures) ∙ ap found (sym l.same);
     })
     (λ c. omega arith)
     -- loop-again
     (λ c. (
       omega arith,
-      (let after-if2 = c.before.before.before in let after-stacked = after-if2.before in
-          let after-loop-test = after-stacked.before in let after-loop = after-loop-test.before in let after-entry2 = after-loop.before.before in
-          let after-entry = after-entry2.before in let start = after-entry.before.before.before.before in
-          λ sc h. let l = after-loop.loop.invariant.1 sc h in left-then _ sc l (in-other _ _ start.args.leaf _ after-loop-test.loop-test.true
-          after-stacked.stacked.ensures.0 after-if2.if2.false c.before.before.stacked2.ensures.0 after-entry.entry.ensures.0
-          after-entry2.entry2.ensures.0 l.shows (sym c.if3.false ∙ c.before.spelt.ensures))),
+      (let after-if2 = c in let after-stacked = after-if2 in
+          let after-loop-test = after-stacked in let after-loop = after-loop-test in let after-entry2 = after-loop in
+          let after-entry = after-entry2 in let start = after-entry in
+          λ sc h. let l = after-loop.loop-at.invariant.1 sc h in left-then _ sc l (in-other _ _ start.args.leaf _ after-loop-test.loop-at-test.true
+          after-stacked.stacked-m.ensures.0 after-if2.if-m-eq0.false c.stacked.ensures.0 after-entry.entry-width.ensures.0
+          after-entry2.entry-place.ensures.0 l.shows (sym c.if-spelt.false ∙ c.spelt.ensures))),
     ))
-    (λ c. (record { by = λ sc h. let l = c.before.loop.invariant.1 sc h in sym (ap found (l.same ∙ in-outer _ _ _ _ l.shows (omega arith))) })))
+    (λ c. (record { by = λ sc h. let l = c.loop-at.invariant.1 sc h in sym (ap found (l.same ∙ in-outer _ _ _ _ l.shows (omega arith))) })))

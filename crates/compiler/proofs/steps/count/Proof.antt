@@ -2,7 +2,7 @@ use Rattle.laws.proofs.Basics.{◌-◌, ◌≤◌, arith, needs}
 use Rattle.compiler.proofs.Counting.{Counting, count-begin, count_next, count-end}
 use Rattle.compiler.proofs.steps.count.Tie as tie
 
-abbrev invariant-loop : tie.invariant-loop
+abbrev invariant-loop : tie.invariant-loop-at
 invariant-loop s from end at₀ n₀ at n = (n ≤ at) × Counting s from end at n
 
 pub count_spec : {M : Type 1} → Rattle.compiler.proofs.steps.count.Statement.statement M

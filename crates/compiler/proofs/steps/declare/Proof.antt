@@ -5,32 +5,32 @@ use Rattle.compiler.specs.Commands.{ReadyNames}
 use Rattle.compiler.proofs.Declarations.{NamesPart, names-begin, names-next, names-end, names-fit}
 use Rattle.compiler.proofs.steps.declare.Tie as tie
 
-abbrev invariant-loop : tie.invariant-loop
+abbrev invariant-loop : tie.invariant-loop-at
 invariant-loop source s₀ from end top height at₀ k₀ r₀ s at k r =
     (length s ≡ length s₀) × ((y : ReadyNames s₀ from end top height) → NamesPart source r₀ y s at k r)
 
-abbrev decreases-loop : tie.decreases-loop
+abbrev decreases-loop : tie.decreases-loop-at
 decreases-loop source s₀ from end top height at₀ k₀ r₀ s at k r = end - at
 
 -- what a name needs
-fit : (c : tie.In-loop invariant-loop decreases-loop) → let start = c.before.before.before.before in let l = c.before.loop in
-    (start.args.top + 2 * l.k + 2 ≤ length l.s) × (start.args.height + l.k < 2 ^ 29) × (l.at < 2 ^ 32)
-    × (start.args.top + 2 * l.k + 2 ≤ start.requires.base) × FineName (name_at l.s l.at)
-fit c = let start = c.before.before.before.before in
-    names-fit start.args.source.now c.before.loop.k c.loop-test.true start.requires (c.before.loop.invariant.1 start.requires)
+fit : (c : tie.In-loop-at invariant-loop decreases-loop) → let start = c in let l = c.loop-at in
+    (start.args.top + 2 * l.k + 2 ≤ length l.s-1) × (start.args.height + l.k < 2 ^ 29) × (l.at < 2 ^ 32)
+    × (start.args.top + 2 * l.k + 2 ≤ start.requires.base) × FineName (name_at l.s-1 l.at)
+fit c = let start = c in
+    names-fit start.args.source.now c.loop-at.k c.loop-at-test.true start.requires (c.loop-at.invariant.1 start.requires)
 
 pub declare_spec : {M : Type 1} → Rattle.compiler.proofs.steps.declare.Statement.statement M
 declare_spec =
     tie.close (tie.spec invariant-loop decreases-loop (λ c. (refl, λ y. search names-begin)) (λ c. omega (arith, fit (search))) (λ c. omega (arith, fit (search)))
-    (λ c κs. search (needs, names-fit)) (λ c. omega arith) (search needs) (λ c _. c.entry.ensures.1) (λ c. omega (arith, fit (search)))
+    (λ c κs. search (needs, names-fit)) (λ c. omega arith) (search needs) (λ c _. c.entry-place.ensures.1) (λ c. omega (arith, fit (search)))
     (λ c. omega (arith, fit (search))) (λ c. omega (arith, fit (search))) (λ c. omega (arith, fit (search))) (λ c. omega (arith, fit (search)))
     (λ c κs. let w = fit (search) in (omega arith, omega arith, omega arith, w.4)) (λ c. omega (arith, fit (search))) (λ c. omega arith)
     (λ c. omega arith)
     -- loop-again
-    (λ c. let after-again = c.before.before.before.before in let after-entry = after-again.before in
-    let after-in-block = after-entry.before.before in let after-loop-test = after-in-block.before.before in
-    let after-loop = after-loop-test.before in (
+    (λ c. let after-again = c in let after-entry = after-again in
+    let after-in-block = after-entry in let after-loop-test = after-in-block in
+    let after-loop = after-loop-test in (
       omega arith,
-      λ y. names-next _ _ after-loop-test.loop-test.true after-in-block.in_block.ensures after-entry.entry.ensures.0
-          after-again.again.ensures c.before.before.push-name.ensures refl y (after-loop.loop.invariant.1 y),
-    )) (search needs) (λ c. names-end _ _ c.loop-test.false c.before.loop.invariant.1))
+      λ y. names-next _ _ after-loop-test.loop-at-test.true after-in-block.in_block-m.ensures after-entry.entry-place.ensures.0
+          after-again.again-r.ensures c.push_name.ensures refl y (after-loop.loop-at.invariant.1 y),
+    )) (search needs) (λ c. names-end _ _ c.loop-at-test.false c.loop-at.invariant.1))

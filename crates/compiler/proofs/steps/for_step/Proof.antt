@@ -4,17 +4,17 @@ use Rattle.compiler.proofs.steps.for_step.Tie as tie
 
 pub for_step_spec : {M : Type 1} → Rattle.compiler.proofs.steps.for_step.Statement.statement M
 for_step_spec = tie.close (tie.spec (search needs) (search needs) (search needs) (search needs) (search needs) (search needs)
-    (λ c. let put : tie.After-put = search in let start : tie.Start = search in omega arith) (search needs)
+    (λ c. let put : tie.After-put-b = search in let start : tie.Start = search in omega arith) (search needs)
     -- same-length
-    (λ c. let after-put-to = c.before.before.before.before.before.before in let after-put3 = after-put-to.before.before.before.before in
-    let after-put2 = after-put3.before.before.before.before in let after-put = after-put2.before.before.before.before in
-    let after-mark = after-put.before.before.before.before in
-    c.before.before.mark2.auto.0 ∙ after-put-to.put-to.auto.0 ∙ after-put3.put3.auto.0 ∙ after-put2.put2.auto.0
-    ∙ after-put.put.auto.0 ∙ after-mark.mark.auto.0)
+    (λ c. let after-put-to = c in let after-put3 = after-put-to in
+    let after-put2 = after-put3 in let after-put = after-put2 in
+    let after-mark = after-put in
+    c.mark.auto.0 ∙ after-put-to.put_to-e.auto.0 ∙ after-put3.put-d.auto.0 ∙ after-put2.put-c.auto.0
+    ∙ after-put.put-b.auto.0 ∙ after-mark.mark-a.auto.0)
     -- returns
-    (λ c. let after-put-to = c.before.before.before.before.before.before in let after-put3 = after-put-to.before.before.before.before in
-    let after-put2 = after-put3.before.before.before.before in let after-put = after-put2.before.before.before.before in
-    let after-mark = after-put.before.before.before.before in
-    emits_then after-mark.mark.ensures (emits_then after-put.put.ensures
-    (emits_then after-put2.put2.ensures (emits_then after-put3.put3.ensures
-    (emits_then after-put-to.put-to.ensures c.before.before.mark2.ensures))))))
+    (λ c. let after-put-to = c in let after-put3 = after-put-to in
+    let after-put2 = after-put3 in let after-put = after-put2 in
+    let after-mark = after-put in
+    emits_then after-mark.mark-a.ensures (emits_then after-put.put-b.ensures
+    (emits_then after-put2.put-c.ensures (emits_then after-put3.put-d.ensures
+    (emits_then after-put-to.put_to-e.ensures c.mark.ensures))))))

@@ -7,13 +7,13 @@ pub for_test_spec : {M : Type 1} → Rattle.compiler.proofs.steps.for_test.State
 for_test_spec = tie.close (tie.spec (search needs) (search needs) (search needs) (search needs) (search needs) (search needs)
     (λ c. let start : tie.Start = search in omega arith) (search needs)
     -- same-length
-    (λ c. let after-put3 = c.before.before.before.before.before.before in let after-put2 = after-put3.before.before.before.before.before in
-    let after-put = after-put2.before.before.before.before in let after-mark = after-put.before.before.before.before in
-    c.before.before.put-to.auto.0 ∙ after-put3.put3.auto.0 ∙ after-put2.put2.auto.0 ∙ after-put.put.auto.0 ∙ after-mark.mark.auto.0)
+    (λ c. let after-put3 = c in let after-put2 = after-put3 in
+    let after-put = after-put2 in let after-mark = after-put in
+    c.put_to.auto.0 ∙ after-put3.put-d.auto.0 ∙ after-put2.put-c.auto.0 ∙ after-put.put-b.auto.0 ∙ after-mark.mark-a.auto.0)
     -- returns
-    (λ c. let after-put3 = c.before.before.before.before.before.before in let after-limit-act = after-put3.before in
-    let after-put2 = after-limit-act.before.before.before.before in let after-put = after-put2.before.before.before.before in
-    let after-mark = after-put.before.before.before.before in
-    emits_then after-mark.mark.ensures (emits_then after-put.put.ensures
-    (emits_then after-put2.put2.ensures (emits_then (act-is after-limit-act.limit-act.ensures after-put3.put3.ensures)
-    c.before.before.put-to.ensures)))))
+    (λ c. let after-put3 = c in let after-limit-act = after-put3 in
+    let after-put2 = after-limit-act in let after-put = after-put2 in
+    let after-mark = after-put in
+    emits_then after-mark.mark-a.ensures (emits_then after-put.put-b.ensures
+    (emits_then after-put2.put-c.ensures (emits_then (act-is after-limit-act.limit_act.ensures after-put3.put-d.ensures)
+    c.put_to.ensures)))))

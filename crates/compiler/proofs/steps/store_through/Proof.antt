@@ -5,5 +5,5 @@ use Rattle.compiler.proofs.steps.store_through.Tie as tie
 pub store_through_spec : {M : Type 1} → Rattle.compiler.proofs.steps.store_through.Statement.statement M
 store_through_spec = tie.close (tie.spec (search needs) (search needs) (search needs) (search needs) (search needs) (search needs)
     -- returns
-    (λ c. emits_then c.before.before.before.before.before.before.before.before.before.before.put.ensures
-    (emits_then c.before.before.before.before.before.before.put2.ensures c.before.before.put3.ensures)))
+    (λ c. emits_then c.put-a.ensures
+    (emits_then c.put-b.ensures c.put.ensures)))

@@ -4,23 +4,23 @@ use Rattle.text.proofs.Quotes.{is-inside}
 use Rattle.compiler.proofs.StringTexts.{Spelling, spelling-begin, spelling-next, spelling-end, spelling-ended, spelling-mistake}
 use Rattle.compiler.proofs.strings.characters.Tie as tie
 
-abbrev invariant-loop : tie.invariant-loop
+abbrev invariant-loop : tie.invariant-loop-c
 invariant-loop source from text₀ at i₀ x₀ text i x = (length text ≡ length text₀) × Spelling source from i at x text₀ text
 
 pub characters_spec : {M : Type 1} → Rattle.compiler.proofs.strings.characters.Statement.statement M
 characters_spec = tie.close (tie.spec invariant-loop (λ source from text₀ at i₀ x₀ text i x. length source - i) (λ _. (refl, spelling-begin)) (search needs)
     (search needs) (search needs)
     -- add-i
-    (λ c. let source = c.before.before.before.before.before.before.before.before.before.before.before.args.source.now in
-    let i = c.before.before.before.before.before.before.before.before.loop.i in
-    let one = when-is _ c.before.before.before.before.before.before.before.character-at.ensures
-    c.before.before.before.before.before.one.given.1 in omega (arith, is-inside 34 source i one))
+    (λ c. let source = c.args.source.now in
+    let i = c.loop-c.i in
+    let one = when-is _ c.character_at-one.ensures
+    c.in-Is.is in omega (arith, is-inside 34 source i one))
     -- loop-less
-    (λ c. let source = c.before.before.before.before.before.before.before.before.before.before.before.args.source.now in
-    let i = c.before.before.before.before.before.before.before.before.loop.i in
-    let one = when-is _ c.before.before.before.before.before.before.before.character-at.ensures
-    c.before.before.before.before.before.one.given.1 in omega (arith, is-inside 34 source i one))
+    (λ c. let source = c.args.source.now in
+    let i = c.loop-c.i in
+    let one = when-is _ c.character_at-one.ensures
+    c.in-Is.is in omega (arith, is-inside 34 source i one))
     (λ c. (search needs, search (spelling-next, when-is))) (search needs) (search needs) (λ c. search (spelling-end, when-closing)) (search needs)
     (search needs) (λ c. search (spelling-ended, when-ended)) (search needs) (search needs)
-    (λ c. spelling-mistake (when-mistake _ c.before.before.character-at.ensures c.enum-told3.given.1)
-    c.before.before.before.loop.invariant.1))
+    (λ c. spelling-mistake (when-mistake _ c.character_at-one.ensures c.in-Mistake.is)
+    c.loop-c.invariant.1))

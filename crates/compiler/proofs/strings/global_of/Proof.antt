@@ -2,7 +2,7 @@ use Rattle.laws.proofs.Basics.{◌-◌, arith, needs}
 use Rattle.compiler.proofs.StartTexts.{Passed, passed-begin, passed-next, passed-found, passed-end}
 use Rattle.compiler.proofs.strings.global_of.Tie as tie
 
-abbrev invariant-loop : tie.invariant-loop
+abbrev invariant-loop : tie.invariant-loop-n
 invariant-loop table label n₀ n = Passed table label n
 
 pub global_of_spec : {M : Type 1} → Rattle.compiler.proofs.strings.global_of.Statement.statement M
