@@ -2,9 +2,6 @@ use Rattle.laws.proofs.Basics.{◌+◌, ◌≤◌, sym, ◌∙◌, length-take-l
 use Rattle.compiler.proofs.Answering.{end-inside, few-symbols, few_labels, ready-behind, ready-program, translates}
 use Rattle.compiler.proofs.walked.Tie as tie
 
-abbrev start : tie.After-program-e → tie.Start
-start c = c
-
 labels : (c : tie.After-string_count-names) → c.function_count-functions.result + 1 + c.string_count-names.result ≤ 98305
 labels c =
     let f = c in few_labels f.requires f.function_count-functions.ensures c.string_count-names.ensures
@@ -16,8 +13,8 @@ walked_spec =
     (λ c κs. search ready-program) (search needs)
     -- behind-requires
     (λ c κs. let p : tie.After-program-e = search in let s : tie.After-string_count-names = search in let f = s in
-    ready-behind f.pre f.function_count-functions.ensures s.string_count-names.ensures (search needs))
-    (λ c. end-inside (start (search)).requires (search needs)) (λ c. sym (length-take-le _ _ (end-inside (start (search)).requires (search needs))))
+    ready-behind f.requires f.function_count-functions.ensures s.string_count-names.ensures (search needs))
+    (λ c. end-inside c.requires (search needs)) (λ c. sym (length-take-le _ _ (end-inside c.requires (search needs))))
     (search needs) (search needs) (search needs) (search needs) (search needs) (search needs)
     -- returns
     (λ c. let a = c in let b = a in

@@ -4,7 +4,7 @@ use Rattle.compiler.proofs.labels.table.Tie as tie
 
 pub table_spec : {M : Type 1} → Rattle.compiler.proofs.labels.table.Statement.statement M
 table_spec = tie.close (tie.spec (search needs) (search needs) (search needs) (search needs) (search needs)
-    (λ c κs. let start = c in (start.pre.0, start.pre.1)) (search needs)
+    (λ c κs. let start = c in (start.requires.0, start.requires.1)) (search needs)
     -- returns
     (λ c. let after-put-address = c in let after-default-of = after-put-address in
     let after-put-word = after-default-of in let after-count-all = after-put-word in

@@ -3,7 +3,7 @@ use Rattle.compiler.proofs.FunctionLaws.{function-room, function-names, function
 use Rattle.compiler.proofs.outer.function.Tie as tie
 
 room : (c : tie.After-node_at-n) → let start = c in let top = start.args.here.top in
-    (top + 2 ≤ length start.args.s-1.now) × (top + 2 ≤ start.requires.base) × (top + 2 + 2 * (c.node_at-n.result.value / 4) ≤ start.requires.base)
+    (top + 2 ≤ length start.args.s.now) × (top + 2 ≤ start.requires.base) × (top + 2 + 2 * (c.node_at-n.result.value / 4) ≤ start.requires.base)
     × (start.requires.base < 2 ^ 32)
 room c = function-room _ c.node_at-n.ensures c.requires
 

@@ -12,12 +12,12 @@ decreases-loop source s₀ from end top global at₀ k₀ r₀ s at k r = end - 
 
 -- what an item needs
 fit : (c : tie.In-loop-at invariant-loop decreases-loop) → let start = c in let l = c.loop-at in
-    Fits start.args.global start.args.source.now start.args.st start.requires l.s-1 l.at l.k
+    Fits start.args.global start.args.source.now start.args.st start.requires l.s l.at l.k
 fit c = let start = c in
     items-fit start.args.global start.args.source.now start.args.st c.loop-at.k c.loop-at-test.true start.requires
     (c.loop-at.invariant.1 start.requires)
 
-out : (c : tie.At-loop-at invariant-loop decreases-loop) → let start = c in start.args.top + 2 * c.loop-at.k ≤ length start.args.s-1.now
+out : (c : tie.At-loop-at invariant-loop decreases-loop) → let start = c in start.args.top + 2 * c.loop-at.k ≤ length start.args.s.now
 out c = let start = c in
     items-out start.args.global start.args.source.now start.args.st c.loop-at.k start.requires (c.loop-at.invariant.1 start.requires)
 

@@ -14,8 +14,8 @@ decreases-loop source s₀ from end top height at₀ k₀ r₀ s at k r = end - 
 
 -- what a name needs
 fit : (c : tie.In-loop-at invariant-loop decreases-loop) → let start = c in let l = c.loop-at in
-    (start.args.top + 2 * l.k + 2 ≤ length l.s-1) × (start.args.height + l.k < 2 ^ 29) × (l.at < 2 ^ 32)
-    × (start.args.top + 2 * l.k + 2 ≤ start.requires.base) × FineName (name_at l.s-1 l.at)
+    (start.args.top + 2 * l.k + 2 ≤ length l.s) × (start.args.height + l.k < 2 ^ 29) × (l.at < 2 ^ 32)
+    × (start.args.top + 2 * l.k + 2 ≤ start.requires.base) × FineName (name_at l.s l.at)
 fit c = let start = c in
     names-fit start.args.source.now c.loop-at.k c.loop-at-test.true start.requires (c.loop-at.invariant.1 start.requires)
 

@@ -9,8 +9,8 @@ for_step_spec = tie.close (tie.spec (search needs) (search needs) (search needs)
     (λ c. let after-put-to = c in let after-put3 = after-put-to in
     let after-put2 = after-put3 in let after-put = after-put2 in
     let after-mark = after-put in
-    c.mark.auto.0 ∙ after-put-to.put_to-e.auto.0 ∙ after-put3.put-d.auto.0 ∙ after-put2.put-c.auto.0
-    ∙ after-put.put-b.auto.0 ∙ after-mark.mark-a.auto.0)
+    c.mark.auto.text ∙ after-put-to.put_to-e.auto.text ∙ after-put3.put-d.auto.text ∙ after-put2.put-c.auto.text
+    ∙ after-put.put-b.auto.text ∙ after-mark.mark-a.auto.text)
     -- returns
     (λ c. let after-put-to = c in let after-put3 = after-put-to in
     let after-put2 = after-put3 in let after-put = after-put2 in

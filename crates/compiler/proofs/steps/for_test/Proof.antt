@@ -9,7 +9,7 @@ for_test_spec = tie.close (tie.spec (search needs) (search needs) (search needs)
     -- same-length
     (λ c. let after-put3 = c in let after-put2 = after-put3 in
     let after-put = after-put2 in let after-mark = after-put in
-    c.put_to.auto.0 ∙ after-put3.put-d.auto.0 ∙ after-put2.put-c.auto.0 ∙ after-put.put-b.auto.0 ∙ after-mark.mark-a.auto.0)
+    c.put_to.auto.text ∙ after-put3.put-d.auto.text ∙ after-put2.put-c.auto.text ∙ after-put.put-b.auto.text ∙ after-mark.mark-a.auto.text)
     -- returns
     (λ c. let after-put3 = c in let after-limit-act = after-put3 in
     let after-put2 = after-limit-act in let after-put = after-put2 in
