@@ -18,7 +18,7 @@ returns c = let text = c.args.text.now in
 loop-again : tie.Need-loop-i-preserved invariant-loop decreases-loop
 loop-again c = let head = c in let args = head.args in let i = head.loop-i.i in
     elim c.if-text-i-eq10.branch [
-      then-text-i-eq10 w ↦ omega (arith, between-newline args.text.now args.place i (omega arith) (omega arith) w.if-text-i-eq10.true)
+      | then-text-i-eq10 w ↦ omega (arith, between-newline args.text.now args.place i (omega arith) (omega arith) w.if-text-i-eq10.true)
       | else-text-i-eq10 w ↦ omega (arith, between-other args.text.now args.place i (omega arith) (omega arith) w.if-text-i-eq10.false)
     ]
 
