@@ -1,5 +1,5 @@
 -- Operands: primaries with their suffixes, arguments and lists of expressions.
-use Rattle.tree.proofs.phrases.+also_arg_bare_block_body_call_cases_cmd_expr_form_forms_give_index_init_item_lets_list_local_monad_nest_op_pass_pick_plain_redo_rest_run_set_step_tail_tails_term_test_till_unary_unit_valof_when_whole as cycle
+use Rattle.tree.proofs.phrases.+phrases as cycle
 use Rattle.language.specs.Tree as T
 use Rattle.language.specs.Expressions as E
 use Rattle.language.specs.Commands as C
