@@ -4,25 +4,25 @@ use Rattle.tree.proofs.parts.negative.Tie as tie
 
 pub negative_spec : {M : Type 1} → Rattle.tree.proofs.parts.negative.Statement.statement M
 negative_spec =
-    tie.close (tie.spec (search needs) (search needs) (λ c. negative-shut _ c.before.before.if1.true c.refuse.ensures) (search needs)
+    tie.close (tie.spec (search needs) (search needs) (λ c. negative-shut _ c.if-levels-eq0.true c.refuse.ensures) (search needs)
     (search needs) (search needs) (search needs) (search needs) (search needs) (search needs) (search needs) (search needs)
-    (λ c. let after-match = c.before.before.before.before in let after-kind-here = after-match.before.before.before in
-    let after-place-here = after-kind-here.before.before.before.before in
-    negative-number _ after-place-here.place_here.ensures after-place-here.before.before.if1.false
-    after-kind-here.before.before.expect.ensures after-kind-here.kind-here.ensures after-match.before.value-here.ensures
-    after-match.match.keys1 c.before.before.negated.ensures) (search needs)
-    (λ c. let after-match = c.before.before.before.before in let after-kind-here = after-match.before.before.before in
-    let after-place-here = after-kind-here.before.before.before.before in
-    negative-true _ after-place-here.place_here.ensures after-place-here.before.before.if1.false
-    after-kind-here.before.before.expect.ensures after-kind-here.kind-here.ensures after-match.before.value-here.ensures
-    after-match.match.keys2 c.before.before.negated2.ensures) (search needs)
-    (λ c. let after-match = c.before.before.before.before in let after-kind-here = after-match.before.before.before in
-    let after-place-here = after-kind-here.before.before.before.before in
-    negative-false _ after-place-here.place_here.ensures after-place-here.before.before.if1.false
-    after-kind-here.before.before.expect.ensures after-kind-here.kind-here.ensures after-match.before.value-here.ensures
-    after-match.match.keys3 c.before.before.negated3.ensures) (search needs)
-    (λ c. let after-match = c.before.before.before.before in let after-kind-here = after-match.before.before.before in
-    let after-place-here = after-kind-here.before.before.before.before in
-    negative-name _ after-place-here.place_here.ensures after-place-here.before.before.if1.false
-    after-kind-here.before.before.expect.ensures after-kind-here.kind-here.ensures after-match.before.value-here.ensures
-    after-match.match.rest c.before.before.negated-name.ensures))
+    (λ c. let after-match = c in let after-kind-here = after-match in
+    let after-place-here = after-kind-here in
+    negative-number _ after-place-here.place_here-place.ensures after-place-here.if-levels-eq0.false
+    after-kind-here.expect-minus.ensures after-kind-here.kind_here-kind.ensures after-match.value_here-value.ensures
+    after-match.in-60.is c.negated.ensures) (search needs)
+    (λ c. let after-match = c in let after-kind-here = after-match in
+    let after-place-here = after-kind-here in
+    negative-true _ after-place-here.place_here-place.ensures after-place-here.if-levels-eq0.false
+    after-kind-here.expect-minus.ensures after-kind-here.kind_here-kind.ensures after-match.value_here-value.ensures
+    after-match.in-9.is c.negated-in-9.ensures) (search needs)
+    (λ c. let after-match = c in let after-kind-here = after-match in
+    let after-place-here = after-kind-here in
+    negative-false _ after-place-here.place_here-place.ensures after-place-here.if-levels-eq0.false
+    after-kind-here.expect-minus.ensures after-kind-here.kind_here-kind.ensures after-match.value_here-value.ensures
+    after-match.in-10.is c.negated-in-10.ensures) (search needs)
+    (λ c. let after-match = c in let after-kind-here = after-match in
+    let after-place-here = after-kind-here in
+    negative-name _ after-place-here.place_here-place.ensures after-place-here.if-levels-eq0.false
+    after-kind-here.expect-minus.ensures after-kind-here.kind_here-kind.ensures after-match.value_here-value.ensures
+    after-match.in_default.in_default-own.rest c.negated_name.ensures))
