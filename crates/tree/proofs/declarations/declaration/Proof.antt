@@ -6,10 +6,10 @@ use Rattle.tree.proofs.Steps.{pair}
 use Rattle.tree.proofs.declarations.declaration.Tie as tie
 
 returns-3 : tie.Need-returns-in_default
-returns-3 c = let after-functions = c in let after-match = after-functions in
-    pair (leaves-less after-functions.functions.ensures.0 refl)
-    (λ src l h. (let u = unlike2 after-match.in_default.in_default-own.rest in declaration-functions src h u.0 u.1
-    (after-functions.functions.ensures.1 src l)))
+returns-3 c =
+    pair (leaves-less c.functions.ensures.0 refl)
+    (λ src l h. (let u = unlike2 c.in_default.in_default-own.rest in declaration-functions src h u.0 u.1
+    (c.functions.ensures.1 src l)))
 
 pub declaration_spec : {M : Type 1} → Rattle.tree.proofs.declarations.declaration.Statement.statement M
 declaration_spec = tie.close (tie.spec (search needs) (search needs) (search needs) (search needs) (λ c. (

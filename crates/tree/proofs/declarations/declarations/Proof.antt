@@ -21,15 +21,15 @@ declarations_spec = tie.close (tie.spec invariant-loop decreases-loop (λ c. so-
     (λ c κs. pair (omega arith) (declaration-positive _ c.is_declaration.ensures c.if-is_declaration.true)) (search needs)
     (λ c. omega arith)
     -- loop-again
-    (λ c. let declared = c in let if1 = declared in let is-declaration = if1 in
-    let kind-here = is-declaration in let in-loop = kind-here in many-turns _ _ _ _ before-next in-loop.loop-turns.invariant
-    kind-here.kind_here-kind.ensures (sym is-declaration.is_declaration.ensures ∙ if1.if-is_declaration.true) (
-      declared.declared-a.ensures.0,
-      λ src l k. declared.declared-a.ensures.1 src l k (sym is-declaration.is_declaration.ensures ∙ if1.if-is_declaration.true),
-    ) declared.declared-a.auto.0 (omega
+    (λ c.
+    many-turns _ _ _ _ before-next c.loop-turns.invariant
+    c.kind_here-kind.ensures (sym c.is_declaration.ensures ∙ c.if-is_declaration.true) (
+      c.declared-a.ensures.0,
+      λ src l k. c.declared-a.ensures.1 src l k (sym c.is_declaration.ensures ∙ c.if-is_declaration.true),
+    ) c.declared-a.auto.s (omega
     arith)) (search needs)
     -- returns
-    (λ c. let is-declaration = c in let kind-here = is-declaration in let in-loop = kind-here in
-    many-ends _ _ _ _ before_last (wordless no-program-words) refl in-loop.loop-turns.invariant kind-here.kind_here-kind.ensures
-    (sym is-declaration.is_declaration.ensures ∙ c.if-is_declaration.false))
+    (λ c.
+    many-ends _ _ _ _ before_last (wordless no-program-words) refl c.loop-turns.invariant c.kind_here-kind.ensures
+    (sym c.is_declaration.ensures ∙ c.if-is_declaration.false))
     (search needs) (λ c. many-spent _ _ _ _ before_last (wordless no-program-words) refl c.loop-turns.invariant (omega arith)))

@@ -23,8 +23,7 @@ further_functions_spec = tie.close (tie.spec invariant-loop decreases-loop (λ c
     c.kind_here-kind.ensures (ne_eqb _ _ c.if-kind-ne-AND.true))
     (λ c κs. omega arith) (λ c κs. ready-leaves c.expect-word.ensures.0 refl refl (omega arith)) (search needs) (λ c. omega arith)
     -- loop-again
-    (λ c. let function = c in let expect = function in let if1 = expect in
-    let kind-here = if1 in let in-loop = kind-here in
-    many-turns _ _ _ _ before-next in-loop.loop-turns.invariant kind-here.kind_here-kind.ensures (eq-eqb _ _ if1.if-kind-ne-AND.false)
-    (at-any (and-function-reads expect.expect-word.ensures function.function-a.ensures)) function.function-a.auto.0 (omega arith))
+    (λ c.
+    many-turns _ _ _ _ before-next c.loop-turns.invariant c.kind_here-kind.ensures (eq-eqb _ _ c.if-kind-ne-AND.false)
+    (at-any (and-function-reads c.expect-word.ensures c.function-a.ensures)) c.function-a.auto.s (omega arith))
     (search needs) (λ c. many-spent _ _ _ _ before_last (wordless no-function-words) refl c.loop-turns.invariant (omega arith)))

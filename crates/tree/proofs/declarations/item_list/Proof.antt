@@ -9,11 +9,11 @@ pub item_list_spec : {M : Type 1} → Rattle.tree.proofs.declarations.item_list.
 item_list_spec = tie.close (tie.spec (search needs)
     (λ c κs. pair (ready-leaves c.expect-begin.ensures.0 refl refl c.requires.0) (omega arith))
     -- further-items-requires
-    (λ c κs. let one-item = c in let expect = one-item in let start = expect in
-    pair (ready-leaves one-item.one_item-first.ensures.0 one-item.one_item-first.auto.0 refl
-    (ready-leaves expect.expect-begin.ensures.0 refl refl start.requires.0)) (omega arith)) (search needs)
+    (λ c κs.
+    pair (ready-leaves c.one_item-first.ensures.0 c.one_item-first.auto.s refl
+    (ready-leaves c.expect-begin.ensures.0 refl refl c.requires.0)) (omega arith)) (search needs)
     -- returns
-    (λ c. let further-items = c in let one-item = further-items in
-    let expect = one-item in leaves
-    ((λ src l. item-list-read src _ l.count) from expect.expect-begin.ensures with one-item.one_item-first.ensures with
-    further-items.further_items.ensures) refl))
+    (λ c.
+    leaves
+    ((λ src l. item-list-read src _ l.count) from c.expect-begin.ensures with c.one_item-first.ensures with
+    c.further_items.ensures) refl))

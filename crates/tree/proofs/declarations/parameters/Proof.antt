@@ -9,7 +9,6 @@ parameters_spec = tie.close (tie.spec (search needs) (search needs) (search need
   λ src l. no-parameters src (c.kind_here-kind.ensures src l) c.if-kind-eq-CLOSE.true (c.expect.ensures.1 src l),
 )) (search needs) (search needs) (search needs) (search needs)
     -- returns-2
-    (λ c. let further-names = c in let a-name = further-names in
-    let if1 = a-name in let kind-here = if1 in
-    leaves ((λ src l. some-parameters src (kind-here.kind_here-kind.ensures src l) l.count if1.if-kind-eq-CLOSE.false) from a-name.a_name-first.ensures with
-    further-names.further_names-last.ensures with c.expect-2.ensures) refl))
+    (λ c.
+    leaves ((λ src l. some-parameters src (c.kind_here-kind.ensures src l) l.count c.if-kind-eq-CLOSE.false) from c.a_name-first.ensures with
+    c.further_names-last.ensures with c.expect-2.ensures) refl))

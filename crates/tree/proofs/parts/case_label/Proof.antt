@@ -9,38 +9,29 @@ use Rattle.tree.proofs.Wholes.{leaves, ◌from◌, ◌with◌, ◌adding◌, ◌
 pub case_label_spec : {M : Type 1} → Rattle.tree.proofs.parts.case_label.Statement.statement M
 case_label_spec = tie.close (tie.spec (search needs) (search needs) (search needs) (search needs) (search needs)
     -- constant-requires
-    (λ c κs. let begin-item = c in let expect = begin-item in
-    let start = expect in
-    ready-takes begin-item.begin_item-begun.ensures.0 begin-item.begin_item-begun.auto.0
-    (ready-leaves expect.expect-word.ensures.0 refl refl start.requires))
+    (λ c κs.
+    ready-takes c.begin_item-begun.ensures.0 c.begin_item-begun.auto.s
+    (ready-leaves c.expect-word.ensures.0 refl refl c.requires))
     -- expect-requires-2
-    (λ c κs. let constant = c in let begin-item = constant in
-    let expect = begin-item in let start = expect in
-    pair (ready-leaves constant.constant-value.ensures.0 constant.constant-value.auto.0 refl
-    (ready-takes begin-item.begin_item-begun.ensures.0 begin-item.begin_item-begun.auto.0
-    (ready-leaves expect.expect-word.ensures.0 refl refl start.requires))) (omega arith))
+    (λ c κs.
+    pair (ready-leaves c.constant-value.ensures.0 c.constant-value.auto.s refl
+    (ready-takes c.begin_item-begun.ensures.0 c.begin_item-begun.auto.s
+    (ready-leaves c.expect-word.ensures.0 refl refl c.requires))) (omega arith))
     -- node-requires
-    (λ c κs. let expect2 = c in let constant = expect2 in
-    let begin-item = constant in let expect = begin-item in
-    let start = expect in
-    ready-leaves expect2.expect-colon.ensures.0 refl refl (ready-leaves constant.constant-value.ensures.0 constant.constant-value.auto.0 refl
-    (ready-takes begin-item.begin_item-begun.ensures.0 begin-item.begin_item-begun.auto.0
-    (ready-leaves expect.expect-word.ensures.0 refl refl start.requires))))
+    (λ c κs.
+    ready-leaves c.expect-colon.ensures.0 refl refl (ready-leaves c.constant-value.ensures.0 c.constant-value.auto.s refl
+    (ready-takes c.begin_item-begun.ensures.0 c.begin_item-begun.auto.s
+    (ready-leaves c.expect-word.ensures.0 refl refl c.requires))))
     -- set-size-requires
-    (λ c κs. let node = c in let expect2 = node in let constant = expect2 in
-    let begin-item = constant in let expect = begin-item in
-    let free_of = expect in let start = free_of in
-    pair (ready-takes node.node-a.ensures.0 node.node-a.auto.0 (ready-leaves expect2.expect-colon.ensures.0 refl refl
-    (ready-leaves constant.constant-value.ensures.0 constant.constant-value.auto.0 refl
-    (ready-takes begin-item.begin_item-begun.ensures.0 begin-item.begin_item-begun.auto.0
-    (ready-leaves expect.expect-word.ensures.0 refl refl start.requires))))) (item-low free_of.free_of-lo.ensures start.requires)) (search needs)
+    (λ c κs.
+    pair (ready-takes c.node-a.ensures.0 c.node-a.auto.s (ready-leaves c.expect-colon.ensures.0 refl refl
+    (ready-leaves c.constant-value.ensures.0 c.constant-value.auto.s refl
+    (ready-takes c.begin_item-begun.ensures.0 c.begin_item-begun.auto.s
+    (ready-leaves c.expect-word.ensures.0 refl refl c.requires))))) (item-low c.free_of-lo.ensures c.requires)) (search needs)
     -- returns
-    (λ c. let set-size = c in let node = set-size in let expect2 = node in
-    let constant = expect2 in let free-of2 = constant in
-    let begin-item = free-of2 in let expect = begin-item in let place_here = expect in
-    let free_of = place_here in let start = free_of in
+    (λ c.
     leaves ((λ src l a b c d f g k. label-case src _ k refl
-    (case-read l _ _ free_of.free_of-lo.ensures (place_here.place_here-place.ensures src l) (low-past start.requires expect.expect-word.ensures.0)
-    (freed _ free-of2.free_of-start.ensures begin-item.begin_item-begun.auto.0) a b c d f g)) from expect.expect-word.ensures adding
-    begin-item.begin_item-begun.ensures with constant.constant-value.ensures with expect2.expect-colon.ensures adding node.node-a.ensures setting
-    set-size.set_size.ensures) refl))
+    (case-read l _ _ c.free_of-lo.ensures (c.place_here-place.ensures src l) (low-past c.requires c.expect-word.ensures.0)
+    (freed _ c.free_of-start.ensures c.begin_item-begun.auto.s) a b c d f g)) from c.expect-word.ensures adding
+    c.begin_item-begun.ensures with c.constant-value.ensures with c.expect-colon.ensures adding c.node-a.ensures setting
+    c.set_size.ensures) refl))

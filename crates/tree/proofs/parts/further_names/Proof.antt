@@ -20,8 +20,7 @@ further_names_spec = tie.close (tie.spec invariant-loop decreases-loop (λ c. so
     (λ c. many-ends _ _ _ _ before_last (wordless no-name-words) refl c.loop-turns.invariant c.kind_here-kind.ensures
     (ne_eqb _ _ c.if-kind-ne-COMMA.true)) (λ c κs. omega arith) (λ c κs. omega arith) (search needs) (λ c. omega arith)
     -- loop-again
-    (λ c. let a-name = c in let expect = a-name in let if1 = expect in let kind-here = if1 in
-    let in-loop = kind-here in
-    many-turns _ _ _ _ before-next in-loop.loop-turns.invariant kind-here.kind_here-kind.ensures (eq-eqb _ _ if1.if-kind-ne-COMMA.false)
-    (at-any (further-name-reads expect.expect-comma.ensures a-name.a_name-a.ensures)) a-name.a_name-a.auto.0 (omega arith))
+    (λ c.
+    many-turns _ _ _ _ before-next c.loop-turns.invariant c.kind_here-kind.ensures (eq-eqb _ _ c.if-kind-ne-COMMA.false)
+    (at-any (further-name-reads c.expect-comma.ensures c.a_name-a.ensures)) c.a_name-a.auto.s (omega arith))
     (search needs) (λ c. many-spent _ _ _ _ before_last (wordless no-name-words) refl c.loop-turns.invariant (omega arith)))

@@ -4,9 +4,9 @@ use Rattle.tree.proofs.Steps.{pair}
 use Rattle.tree.proofs.parts.label.Tie as tie
 
 returns : tie.Need-returns-then-kind-eq-CASE
-returns c = let after-case-label = c in let after-if1 = after-case-label in let start = after-if1 in
-    pair after-case-label.case_label.ensures.0
-    (λ src l k. after-case-label.case_label.ensures.1 src l (subst (λ (x : ℕ). KindHere src start.args.r x) after-if1.if-kind-eq-CASE.true k))
+returns c =
+    pair c.case_label.ensures.0
+    (λ src l k. c.case_label.ensures.1 src l (subst (λ (x : ℕ). KindHere src c.args.r x) c.if-kind-eq-CASE.true k))
 
 pub label_spec : {M : Type 1} → Rattle.tree.proofs.parts.label.Statement.statement M
 label_spec = tie.close (tie.spec (search needs) (search needs) (search needs) returns (search needs) (λ c. (

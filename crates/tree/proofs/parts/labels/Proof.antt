@@ -21,12 +21,11 @@ pub labels_spec : {M : Type 1} → Rattle.tree.proofs.parts.labels.Statement.sta
 labels_spec = tie.close (tie.spec invariant-loop decreases-loop (λ _ _. tt) (λ c. so-begins c.requires before-first) (λ c κs. omega arith) (λ _ _. tt)
     (λ c κs. omega arith) (search needs) (λ c. omega arith)
     -- loop-again
-    (λ c. let label = c in let if1 = label in let is-label = if1 in let kind-here = is-label in
-    let in-loop = kind-here in
-    many-turns _ _ _ _ before-next in-loop.loop-turns.invariant kind-here.kind_here-kind.ensures (sym is-label.is_label.ensures ∙ if1.if-is_label.true)
-    label.label-a.ensures label.label-a.auto.0 (omega arith)) (search needs)
+    (λ c.
+    many-turns _ _ _ _ before-next c.loop-turns.invariant c.kind_here-kind.ensures (sym c.is_label.ensures ∙ c.if-is_label.true)
+    c.label-a.ensures c.label-a.auto.s (omega arith)) (search needs)
     -- returns
-    (λ c. let is-label = c in let kind-here = is-label in let in-loop = kind-here in
-    let minus = in-loop in many-ends _ _ _ _ before_last (wordless no-label-words) minus.minus-turns.ensures in-loop.loop-turns.invariant
-    kind-here.kind_here-kind.ensures (sym is-label.is_label.ensures ∙ c.if-is_label.false)) (search needs)
+    (λ c.
+    many-ends _ _ _ _ before_last (wordless no-label-words) c.minus-turns.ensures c.loop-turns.invariant
+    c.kind_here-kind.ensures (sym c.is_label.ensures ∙ c.if-is_label.false)) (search needs)
     (λ c. many-spent _ _ _ _ before_last (wordless no-label-words) c.minus-turns.ensures c.loop-turns.invariant (omega arith)))

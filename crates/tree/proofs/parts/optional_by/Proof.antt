@@ -6,11 +6,9 @@ use Rattle.tree.proofs.parts.optional_by.Tie as tie
 
 returns : tie.Need-returns-then-kind-eq-BY
 returns c =
-    let after-constant = c in let after-expect = after-constant in let after-if1 = after-expect in
-    let after-kind-here = after-if1 in
-    pair (room-left (left after-expect.expect-word.ensures.0 plus after-constant.constant.ensures.0) refl)
-    (λ src l. by_read src _ (after-kind-here.kind_here-kind.ensures src l) after-if1.if-kind-eq-BY.true (after-expect.expect-word.ensures.1 src l)
-    (after-constant.constant.ensures.1 src l))
+    pair (room-left (left c.expect-word.ensures.0 plus c.constant.ensures.0) refl)
+    (λ src l. by_read src _ (c.kind_here-kind.ensures src l) c.if-kind-eq-BY.true (c.expect-word.ensures.1 src l)
+    (c.constant.ensures.1 src l))
 
 pub optional_by_spec : {M : Type 1} → Rattle.tree.proofs.parts.optional_by.Statement.statement M
 optional_by_spec = tie.close (tie.spec (search needs) (search needs) (search needs) (search needs) returns (search needs)
