@@ -20,6 +20,6 @@ declared_spec = tie.close (tie.spec (search needs) (search needs) (search needs)
     (search needs) (search needs)
     -- returns
     (λ c.
-    leaves ((λ src l a b c d e k h. declared-read src _ k h c.free_of-lo.ensures (low-past c.requires.0 c.expect-word.ensures.0) a b
-    (c h) d e) from c.expect-word.ensures adding c.begin_item-begun.ensures with c.declaration-a.ensures setting
+    leaves ((λ src l a b v d e k h. declared-read src _ k h c.free_of-lo.ensures (low-past c.requires.0 c.expect-word.ensures.0) a b
+    (v h) d e) from c.expect-word.ensures adding c.begin_item-begun.ensures with c.declaration-a.ensures setting
     c.set_size.ensures with c.optional.ensures) refl))

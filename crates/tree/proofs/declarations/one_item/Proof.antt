@@ -12,15 +12,15 @@ a-name-requires c κs =
 
 expect-requires : tie.Need-expect-middle-requires
 expect-requires c κs =
-    (ready-leaves c.a_name-name.ensures.0 c.a_name-name.auto.s refl (a-name-requires c κs), omega arith)
+    (ready-leaves c.a_name-name.ensures.0 c.a_name-name.auto.s refl (a-name-requires c.before.before.before κs), omega arith)
 
 constant-requires : tie.Need-constant-a-requires
-constant-requires c κs = ready-leaves c.expect-middle.ensures.0 refl refl (expect-requires c κs).0
+constant-requires c κs = ready-leaves c.expect-middle.ensures.0 refl refl (expect-requires c.before.before κs).0
 
 set-size-requires : tie.Need-set_size-requires
 set-size-requires c κs =
     pair (ready-leaves c.constant-a.ensures.0 c.constant-a.auto.s refl
-    (constant-requires c κs)) (item-low c.free_of-lo.ensures (ready-part c.requires.0 refl))
+    (constant-requires c.before.before.before.before κs)) (item-low c.free_of-lo.ensures (ready-part c.requires.0 refl))
 
 pub one_item_spec : {M : Type 1} → Rattle.tree.proofs.declarations.one_item.Statement.statement M
 one_item_spec = tie.close (tie.spec (search needs) (search needs) a-name-requires expect-requires constant-requires set-size-requires (search needs)

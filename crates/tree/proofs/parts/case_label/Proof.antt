@@ -30,8 +30,8 @@ case_label_spec = tie.close (tie.spec (search needs) (search needs) (search need
     (ready-leaves c.expect-word.ensures.0 refl refl c.requires))))) (item-low c.free_of-lo.ensures c.requires)) (search needs)
     -- returns
     (λ c.
-    leaves ((λ src l a b c d f g k. label-case src _ k refl
+    leaves ((λ src l a b e d f g k. label-case src _ k refl
     (case-read l _ _ c.free_of-lo.ensures (c.place_here-place.ensures src l) (low-past c.requires c.expect-word.ensures.0)
-    (freed _ c.free_of-start.ensures c.begin_item-begun.auto.s) a b c d f g)) from c.expect-word.ensures adding
+    (freed _ c.free_of-start.ensures c.begin_item-begun.auto.s) a b e d f g)) from c.expect-word.ensures adding
     c.begin_item-begun.ensures with c.constant-value.ensures with c.expect-colon.ensures adding c.node-a.ensures setting
     c.set_size.ensures) refl))

@@ -18,19 +18,19 @@ use Rattle.tree.proofs.Steps.{pair, triple}
 use Rattle.tree.proofs.Symbols.{lies-still}
 use Rattle.tree.specs.Encoding.{encode_operations}
 use Rattle.tree.proofs.Wholes.{leaves, of-kind, ◌from◌, ◌with◌, ◌adding◌, ◌setting◌}
-use cycle.Proof.Ranks.{measured-at, Calls, at, begin-item, below, binding-of, calls-12, calls-4, calls-5, calls-7, expect, expr_rank, free_of, further-most}
+use cycle.Proof.Ranks.{Calls, at, begin-item, below, binding-of, calls-12, calls-4, calls-5, calls-7, expect, expr_rank, free-of, further-most}
 use cycle.Proof.Ranks.{is-monadic, kind-here, minus, monad-rank, node, op-rank, place_here, place_of, reach_of, refuse, right_of, run-rank, set-size}
 use cycle.Proof.Ranks.{term-rank, whole-rank}
 
 abbrev pub expr-cs : ℕ → Calls cycle.Lts-expr.Claims
 expr-cs t =
-    calls-12 (below term-rank t) kind-here (below monad-rank t) (below expr_rank t) free_of binding-of minus place_of right_of (below op-rank t)
+    calls-12 (below term-rank t) kind-here (below monad-rank t) (below expr_rank t) free-of binding-of minus place_of right_of (below op-rank t)
     (below run-rank t) node
 
 pub expr-ok : {M : Type 1} (t : ℕ) → cycle.Lts-expr.Closed (expr-cs t).claims (at expr_rank t) expr_rank.post M
-expr-ok t = cycle.Lts-expr.spec (expr-cs t).claims (at expr_rank t) expr_rank.post (record { claim-own-requires = expr_rank.pre; of-own-requires = λ κs a q. q.1; measure-claim = measured-at expr_rank t; measure-of = λ κs a q. q.0; }) (λ c κs. omega arith) (λ c. omega arith)
+expr-ok t = cycle.Lts-expr.spec (expr-cs t).claims (at expr_rank t) expr_rank.post (λ c κs. omega arith) (λ c. omega arith)
     (λ c. expression-none _ _ c.if-binding-eq0.true c.term.ensures.1) (λ c κs. omega arith)
-    (λ c κs. (omega arith, (c.requires.0, omega arith))) (λ c. omega arith)
+    (λ c κs. (omega arith, (c.requires.1.0, omega arith))) (λ c. omega arith)
     -- returns-2
     (λ c.
     expression-not _ c.kind_here-first.ensures.1 _ c.if-binding-eq-NEGATION.true c.if-first-eq-NOT.true c.monad.ensures.1)
@@ -43,7 +43,7 @@ expr-ok t = cycle.Lts-expr.spec (expr-cs t).claims (at expr_rank t) expr_rank.po
     -- returns-4
     (λ c.
     leaves ((λ src l d. let l₁ = lies-still l c.expr-left.ensures.1.0.kept in
-    expression-one l₁ 0 _ _ c.if-binding-eq0.false c.if-binding-eq-NEGATION.false c.requires.1 (c.kind_here-kind.ensures.1 src l₁) d
+    expression-one l₁ 0 _ _ c.if-binding-eq0.false c.if-binding-eq-NEGATION.false c.requires.1.1 (c.kind_here-kind.ensures.1 src l₁) d
     (λ z. c.if-binding_of-binding.true (c.binding_of.ensures.1 ∙ z))) from c.expr-left.ensures.1) refl)
     (λ c κs. tt) (λ c κs. tt) (λ c κs. c.kind_here-kind.ensures.0) (λ c κs. omega arith)
     -- op-requires
@@ -56,7 +56,7 @@ expr-ok t = cycle.Lts-expr.spec (expr-cs t).claims (at expr_rank t) expr_rank.po
       c.if-binding-eq0.false,
     )))))
     -- run-requires
-    (λ c κs. pair (omega (arith, c.decreases))
+    (λ c κs. pair (omega (arith, c.requires.0))
     (triple (ready-leaves c.op-first.ensures.1.0 c.op-first.auto.s refl c.op-first.ensures.0.1.0) (omega arith) (omega arith)))
     -- cast-node
     (λ c.
@@ -72,17 +72,17 @@ expr-ok t = cycle.Lts-expr.spec (expr-cs t).claims (at expr_rank t) expr_rank.po
     -- returns-5
     (λ c.
     leaves ((λ src l d. let l₁ = lies-still l c.expr-left.ensures.1.0.kept in
-    expression-more l₁ _ _ _ c.if-binding-eq0.false c.if-binding-eq-NEGATION.false c.requires.1 (c.kind_here-kind.ensures.1 src l₁) d
+    expression-more l₁ _ _ _ c.if-binding-eq0.false c.if-binding-eq-NEGATION.false c.requires.1.1 (c.kind_here-kind.ensures.1 src l₁) d
     c.right_of-right.ensures.1.0 (sym c.binding_of.ensures.1 ∙ c.if-binding_of-binding.false) c.free_of-lo.ensures.1
     (measured _ _ c.minus-size.ensures.1 c.free_of.ensures.1 c.expr-left.auto.s) c.place_of-place.ensures.1) from
     c.expr-left.ensures.1 with of-kind c.kind_here-kind.ensures.1
     c.op-first.ensures.1 with c.run-last.ensures.1 adding c.node.ensures.1) refl)
 
 abbrev pub op-cs : ℕ → Calls cycle.Lts-op.Claims
-op-cs t = calls-5 free_of expect begin-item (below expr_rank t) set-size
+op-cs t = calls-5 free-of expect begin-item (below expr_rank t) set-size
 
 pub op_ok : {M : Type 1} (t : ℕ) → cycle.Lts-op.Closed (op-cs t).claims (at op-rank t) op-rank.post M
-op_ok t = cycle.Lts-op.spec (op-cs t).claims (at op-rank t) op-rank.post (record { claim-own-requires = op-rank.pre; of-own-requires = λ κs a q. q.1; measure-claim = measured-at op-rank t; measure-of = λ κs a q. q.0; }) (λ c κs. tt) (λ c κs. omega arith)
+op_ok t = cycle.Lts-op.spec (op-cs t).claims (at op-rank t) op-rank.post (λ c κs. tt) (λ c κs. omega arith)
     (λ c κs. past-symbol refl c.expect-operator.ensures) (λ c κs. let begin-item = c.begin_item-begun in
     pair (omega arith) (pair (ready-takes begin-item.ensures.1.0 begin-item.auto.s begin-item.ensures.0) (omega arith)))
     -- set-size-requires
@@ -99,19 +99,19 @@ op_ok t = cycle.Lts-op.spec (op-cs t).claims (at op-rank t) op-rank.post (record
 abbrev pub run-cs : ℕ → Calls cycle.Lts-run.Claims
 run-cs t = calls-4 further-most kind-here binding-of (below op-rank t)
 
-abbrev run-inv : cycle.Lts-run.invariant-loop
+abbrev run-inv : cycle.Lts-run.invariant-loop-turns
 run-inv s₀ n levels binding right turns₀ a₀ s turns a = SoFar (Before encode_operations)
     (many_up_to turns₀ T.no_operations (λ kind. eqb (binding_of kind) binding) (E.operation (E.expression (within levels) right)))
     (many_up_to turns T.no_operations (λ kind. eqb (binding_of kind) binding) (E.operation (E.expression (within levels) right))) s₀ s n a₀ a
 
-abbrev run-turns : cycle.Lts-run.decreases-loop
+abbrev run-turns : cycle.Lts-run.decreases-loop-turns
 run-turns s₀ n levels binding right turns₀ a₀ s turns a = turns
 
 pub run_ok : {M : Type 1} (t : ℕ) → cycle.Lts-run.Closed (run-cs t).claims (at run-rank t) run-rank.post M
-run_ok t = cycle.Lts-run.spec (run-cs t).claims (at run-rank t) run-rank.post run-inv run-turns (record { claim-own-requires = run-rank.pre; of-own-requires = λ κs a q. q.1; measure-claim = measured-at run-rank t; measure-of = λ κs a q. q.0; }) (λ c κs. tt)
-    (λ c. so-begins c.requires.0 before-first)
+run_ok t = cycle.Lts-run.spec (run-cs t).claims (at run-rank t) run-rank.post run-inv run-turns (λ c κs. tt)
+    (λ c. so-begins c.requires.1.0 before-first)
     (λ c κs. ready-leaves c.loop-turns.invariant.room c.loop-turns.invariant.same refl
-    c.requires.0) (λ c κs. tt) (λ c. omega arith)
+    c.requires.1.0) (λ c κs. tt) (λ c. omega arith)
     -- returns
     (λ c.
     many-ends _ _ _ _ before_last (wordless no-operation-words) c.further_most-turns.ensures.1
@@ -119,7 +119,7 @@ run_ok t = cycle.Lts-run.spec (run-cs t).claims (at run-rank t) run-rank.post ru
     -- op-requires
     (λ c κs.
     pair (omega arith) (triple c.kind_here-kind.ensures.0 (omega arith)
-    (binding-positive _ (omega (arith, c.binding_of.ensures.1, c.if-binding_of-binding.false, c.requires)))))
+    (binding-positive _ (omega (arith, c.binding_of.ensures.1, c.if-binding_of-binding.false, c.requires.1)))))
     (λ c. omega arith) (λ c. omega arith)
     -- loop-again
     (λ c.
@@ -133,10 +133,10 @@ abbrev pub term-cs : ℕ → Calls cycle.Lts-term.Claims
 term-cs t = calls-4 kind-here is-monadic (below monad-rank t) (below whole-rank t)
 
 pub term-ok : {M : Type 1} (t : ℕ) → cycle.Lts-term.Closed (term-cs t).claims (at term-rank t) term-rank.post M
-term-ok t = cycle.Lts-term.spec (term-cs t).claims (at term-rank t) term-rank.post (record { claim-own-requires = term-rank.pre; of-own-requires = λ κs a q. q.1; measure-claim = measured-at term-rank t; measure-of = λ κs a q. q.0; }) (λ c κs. omega arith) (λ c κs. tt)
+term-ok t = cycle.Lts-term.spec (term-cs t).claims (at term-rank t) term-rank.post (λ c κs. omega arith) (λ c κs. tt)
     -- monad-requires
     (λ c κs.
-    pair (omega arith) (pair c.requires (monadic-positive _ c.is_monadic.ensures.1 c.if-is_monadic.true)))
+    pair (omega arith) (pair c.requires.1 (monadic-positive _ c.is_monadic.ensures.1 c.if-is_monadic.true)))
     (λ c κs. omega arith) (λ c. omega arith)
     -- returns
     (λ c.
@@ -147,10 +147,10 @@ term-ok t = cycle.Lts-term.spec (term-cs t).claims (at term-rank t) term-rank.po
     operand-suffixed _ c.kind_here-kind.ensures.1 c.is_monadic.ensures.1 c.if-is_monadic.false c.whole.ensures.1)
 
 abbrev pub monad-cs : ℕ → Calls cycle.Lts-monad.Claims
-monad-cs t = calls-7 refuse free_of place_here expect reach_of (below expr_rank t) node
+monad-cs t = calls-7 refuse free-of place_here expect reach_of (below expr_rank t) node
 
 pub monad-ok : {M : Type 1} (t : ℕ) → cycle.Lts-monad.Closed (monad-cs t).claims (at monad-rank t) monad-rank.post M
-monad-ok t = cycle.Lts-monad.spec (monad-cs t).claims (at monad-rank t) monad-rank.post (record { claim-own-requires = monad-rank.pre; of-own-requires = λ κs a q. q.1; measure-claim = measured-at monad-rank t; measure-of = λ κs a q. q.0; }) (λ c κs. omega arith) (λ c. omega arith)
+monad-ok t = cycle.Lts-monad.spec (monad-cs t).claims (at monad-rank t) monad-rank.post (λ c κs. omega arith) (λ c. omega arith)
     (λ c. monadic-shut _ c.if-levels-eq0.true c.refuse.ensures.1) (λ c κs. tt) (λ c κs. omega arith) (λ c κs. omega arith)
     (λ c. omega arith) (λ c κs. tt) (λ c κs. pair (omega arith) (pair (past-symbol refl c.expect-operator.ensures) (omega arith)))
     (λ c κs. ready-leaves c.expr-a.ensures.1.0 c.expr-a.auto.s refl
@@ -158,5 +158,5 @@ monad-ok t = cycle.Lts-monad.spec (monad-cs t).claims (at monad-rank t) monad-ra
     -- returns-2
     (λ c.
     leaves ((λ src l x y z k. monadic-read l _ _ c.free_of-lo.ensures.1 (c.place_here-place.ensures.1 src l) c.if-levels-eq0.false k
-    c.requires.1 c.reach_of.ensures.1.0 x y z) from c.expect-operator.ensures.1 with c.expr-a.ensures.1 adding
+    c.requires.1.1 c.reach_of.ensures.1.0 x y z) from c.expect-operator.ensures.1 with c.expr-a.ensures.1 adding
     c.node.ensures.1) refl)

@@ -22,8 +22,8 @@ use Rattle.tree.proofs.Symbols.{lies-still}
 use Rattle.tree.specs.Encoding.{encode_repeats}
 use Rattle.tree.specs.Reads.{free_of}
 use Rattle.tree.proofs.Wholes.{leaves, of-kind, ◌from◌, ◌with◌, ◌adding◌, ◌setting◌}
-use cycle.Proof.Ranks.{measured-at, Calls, also-rank, arg-rank, at, bare-rank, begin-item, begins-command, below, block-rank, body-rank, calls-11, calls-4}
-use cycle.Proof.Ranks.{calls-5, calls-6, calls-7, calls-8, cases-rank, cmd-rank, expect, expr_rank, form-rank, forms-rank, free_of, give-rank}
+use cycle.Proof.Ranks.{Calls, also-rank, arg-rank, at, bare-rank, begin-item, begins-command, below, block-rank, body-rank, calls-11, calls-4}
+use cycle.Proof.Ranks.{calls-5, calls-6, calls-7, calls-8, cases-rank, cmd-rank, expect, expr_rank, form-rank, forms-rank, free-of, give-rank}
 use cycle.Proof.Ranks.{goes-on-assignment, is_call, is-guard, is-label, is-leave, is-repeat, kind-here, label, labels, leave, minus, node, pick-rank}
 use cycle.Proof.Ranks.{place_here, plain-rank, redo-rank, refuse, rest-rank, set-rank, set-size, step-rank, test-rank, when-rank}
 
@@ -32,7 +32,7 @@ cmd-cs t = calls-4 kind-here is-label (below cases-rank t) (below body-rank t)
 
 pub cmd-ok : {M : Type 1} (t : ℕ) → cycle.Lts-cmd.Closed (cmd-cs t).claims (at cmd-rank t) cmd-rank.post M
 cmd-ok t =
-    cycle.Lts-cmd.spec (cmd-cs t).claims (at cmd-rank t) cmd-rank.post (record { claim-own-requires = cmd-rank.pre; of-own-requires = λ κs a q. q.1; measure-claim = measured-at cmd-rank t; measure-of = λ κs a q. q.0; }) (λ c κs. omega arith) (λ c κs. tt) (λ c κs. omega arith) (λ c. omega arith)
+    cycle.Lts-cmd.spec (cmd-cs t).claims (at cmd-rank t) cmd-rank.post (λ c κs. omega arith) (λ c κs. tt) (λ c κs. omega arith) (λ c. omega arith)
     -- returns
     (λ c.
     pair c.cases.ensures.1.0 (λ src l. c.cases.ensures.1.1 src l (c.kind_here-kind.ensures.1 src l)
@@ -43,10 +43,10 @@ cmd-ok t =
     command-plain _ c.kind_here-kind.ensures.1 c.is_label.ensures.1 c.if-is_label.false c.body.ensures.1)
 
 abbrev pub cases-cs : ℕ → Calls cycle.Lts-cases.Claims
-cases-cs t = calls-6 free_of label labels minus (below body-rank t) node
+cases-cs t = calls-6 free-of label labels minus (below body-rank t) node
 
 pub cases-ok : {M : Type 1} (t : ℕ) → cycle.Lts-cases.Closed (cases-cs t).claims (at cases-rank t) cases-rank.post M
-cases-ok t = cycle.Lts-cases.spec (cases-cs t).claims (at cases-rank t) cases-rank.post (record { claim-own-requires = cases-rank.pre; of-own-requires = λ κs a q. q.1; measure-claim = measured-at cases-rank t; measure-of = λ κs a q. q.0; }) (λ c κs. tt) (λ c κs. omega arith)
+cases-ok t = cycle.Lts-cases.spec (cases-cs t).claims (at cases-rank t) cases-rank.post (λ c κs. tt) (λ c κs. omega arith)
     (λ c κs. let e = c.label-first in ready-leaves e.ensures.1.0 e.auto.s refl e.ensures.0) (λ c κs. tt) (λ c κs. tt)
     (λ c κs. let e = c.labels-last in
     pair (omega arith) (ready-leaves e.ensures.1.0 e.auto.s refl e.ensures.0))
@@ -72,7 +72,7 @@ abbrev pub body-cs : ℕ → Calls cycle.Lts-body.Claims
 body-cs t = calls-4 kind-here begins-command refuse (below redo-rank t)
 
 pub body_ok : {M : Type 1} (t : ℕ) → cycle.Lts-body.Closed (body-cs t).claims (at body-rank t) body-rank.post M
-body_ok t = cycle.Lts-body.spec (body-cs t).claims (at body-rank t) body-rank.post (record { claim-own-requires = body-rank.pre; of-own-requires = λ κs a q. q.1; measure-claim = measured-at body-rank t; measure-of = λ κs a q. q.0; }) (λ c κs. omega arith) (λ c κs. tt) (λ c κs. omega arith)
+body_ok t = cycle.Lts-body.spec (body-cs t).claims (at body-rank t) body-rank.post (λ c κs. omega arith) (λ c κs. tt) (λ c κs. omega arith)
     (λ c. omega arith)
     -- returns
     (λ c.
@@ -86,7 +86,7 @@ body_ok t = cycle.Lts-body.spec (body-cs t).claims (at body-rank t) body-rank.po
     (λ c. omega arith)
     -- returns-3
     (λ c.
-    body-empty _ _ c.kind_here-kind.ensures.1 c.begins_command.ensures.1 c.if-begins_command.false c.requires c.if-labelled.true)
+    body-empty _ _ c.kind_here-kind.ensures.1 c.begins_command.ensures.1 c.if-begins_command.false c.requires.1 c.if-labelled.true)
     (λ c κs. omega arith) (λ c. omega arith)
     -- returns-4
     (λ c.
@@ -94,18 +94,18 @@ body_ok t = cycle.Lts-body.spec (body-cs t).claims (at body-rank t) body-rank.po
     c.refuse-2.ensures.1)
 
 abbrev pub redo-cs : ℕ → Calls cycle.Lts-redo.Claims
-redo-cs t = calls-8 free_of (below plain-rank t) kind-here is-repeat minus (below form-rank t) (below forms-rank t) node
+redo-cs t = calls-8 free-of (below plain-rank t) kind-here is-repeat minus (below form-rank t) (below forms-rank t) node
 
 pub redo-ok : {M : Type 1} (t : ℕ) → cycle.Lts-redo.Closed (redo-cs t).claims (at redo-rank t) redo-rank.post M
-redo-ok t = cycle.Lts-redo.spec (redo-cs t).claims (at redo-rank t) redo-rank.post (record { claim-own-requires = redo-rank.pre; of-own-requires = λ κs a q. q.1; measure-claim = measured-at redo-rank t; measure-of = λ κs a q. q.0; }) (λ c κs. tt) (λ c κs. omega arith)
+redo-ok t = cycle.Lts-redo.spec (redo-cs t).claims (at redo-rank t) redo-rank.post (λ c κs. tt) (λ c κs. omega arith)
     (λ c κs. let e = c.plain-body in past-part refl e.ensures e.auto.s) (λ c κs. tt) (λ c κs. tt) (λ c κs. tt)
     -- form-requires
     (λ c κs.
-    pair (omega (arith, c.decreases)) (pair c.kind_here-kind.ensures.0
+    pair (omega (arith, c.requires.0)) (pair c.kind_here-kind.ensures.0
     (repeat-positive _ c.is_repeat.ensures.1 c.if-is_repeat.true)))
     -- forms-requires
     (λ c κs.
-    pair (omega (arith, c.decreases)) (past-expression refl c.form-first.ensures c.form-first.auto.s))
+    pair (omega (arith, c.requires.0)) (past-expression refl c.form-first.ensures c.form-first.auto.s))
     -- cast-node
     (λ c.
     let small = size_small _ c.minus-size.ensures.1 c.free_of.ensures.1 c.form-first.ensures.0.1.0 in omega arith)
@@ -131,22 +131,22 @@ redo-ok t = cycle.Lts-redo.spec (redo-cs t).claims (at redo-rank t) redo-rank.po
 abbrev pub forms-cs : ℕ → Calls cycle.Lts-forms.Claims
 forms-cs t = calls-4 minus kind-here is-repeat (below form-rank t)
 
-abbrev forms-inv : cycle.Lts-forms.invariant-loop
+abbrev forms-inv : cycle.Lts-forms.invariant-loop-turns
 forms-inv s₀ n levels turns₀ a₀ s turns a =
     SoFar (Before encode_repeats) (many_up_to turns₀ T.no_repeats is_repeat (C.repeat_form (readers (within levels))))
     (many_up_to turns T.no_repeats is_repeat (C.repeat_form (readers (within levels)))) s₀ s n a₀ a
 
-abbrev forms-turns : cycle.Lts-forms.decreases-loop
+abbrev forms-turns : cycle.Lts-forms.decreases-loop-turns
 forms-turns s₀ n levels turns₀ a₀ s turns a = turns
 
 pub forms-ok : {M : Type 1} (t : ℕ) → cycle.Lts-forms.Closed (forms-cs t).claims (at forms-rank t) forms-rank.post M
-forms-ok t = cycle.Lts-forms.spec (forms-cs t).claims (at forms-rank t) forms-rank.post forms-inv forms-turns (record { claim-own-requires = forms-rank.pre; of-own-requires = λ κs a q. q.1; measure-claim = measured-at forms-rank t; measure-of = λ κs a q. q.0; }) (λ c κs. tt)
-    (λ c. so-begins c.requires before-first)
+forms-ok t = cycle.Lts-forms.spec (forms-cs t).claims (at forms-rank t) forms-rank.post forms-inv forms-turns (λ c κs. tt)
+    (λ c. so-begins c.requires.1 before-first)
     (λ c κs. ready-leaves c.loop-turns.invariant.room c.loop-turns.invariant.same refl
-    c.requires) (λ c κs. tt)
+    c.requires.1) (λ c κs. tt)
     -- form-requires
     (λ c κs.
-    pair (omega arith) (pair (ready-leaves c.loop-turns.invariant.room c.loop-turns.invariant.same refl c.requires)
+    pair (omega arith) (pair (ready-leaves c.loop-turns.invariant.room c.loop-turns.invariant.same refl c.requires.1)
     (repeat-positive _ c.is_repeat.ensures.1 c.if-is_repeat.true)))
     (λ c. omega arith) (λ c. omega arith)
     -- loop-again
@@ -162,10 +162,10 @@ forms-ok t = cycle.Lts-forms.spec (forms-cs t).claims (at forms-rank t) forms-ra
     (λ c. many-spent _ _ _ _ before_last (wordless no-repeat-words) c.minus-turns.ensures.1 c.loop-turns.invariant (omega arith))
 
 abbrev pub form-cs : ℕ → Calls cycle.Lts-form.Claims
-form-cs t = calls-5 free_of expect begin-item (below expr_rank t) set-size
+form-cs t = calls-5 free-of expect begin-item (below expr_rank t) set-size
 
 pub form-ok : {M : Type 1} (t : ℕ) → cycle.Lts-form.Closed (form-cs t).claims (at form-rank t) form-rank.post M
-form-ok t = cycle.Lts-form.spec (form-cs t).claims (at form-rank t) form-rank.post (record { claim-own-requires = form-rank.pre; of-own-requires = λ κs a q. q.1; measure-claim = measured-at form-rank t; measure-of = λ κs a q. q.0; }) (λ c κs. tt) (λ c κs. omega arith)
+form-ok t = cycle.Lts-form.spec (form-cs t).claims (at form-rank t) form-rank.post (λ c κs. tt) (λ c κs. omega arith)
     (λ c κs. past-symbol refl c.expect-word.ensures) (λ c. omega arith)
     -- returns
     (λ c.
@@ -190,10 +190,10 @@ plain-cs t =
     (below block-rank t) (below bare-rank t)
 
 pub plain_ok : {M : Type 1} (t : ℕ) → cycle.Lts-plain.Closed (plain-cs t).claims (at plain-rank t) plain-rank.post M
-plain_ok t = cycle.Lts-plain.spec (plain-cs t).claims (at plain-rank t) plain-rank.post (record { claim-own-requires = plain-rank.pre; of-own-requires = λ κs a q. q.1; measure-claim = measured-at plain-rank t; measure-of = λ κs a q. q.0; }) (λ c κs. omega arith) (λ c κs. tt)
+plain_ok t = cycle.Lts-plain.spec (plain-cs t).claims (at plain-rank t) plain-rank.post (λ c κs. omega arith) (λ c κs. tt)
     -- when-requires
     (λ c κs.
-    pair (omega arith) (pair c.requires (guard-positive _ c.is_guard.ensures.1 c.if-is_guard.true)))
+    pair (omega arith) (pair c.requires.1 (guard-positive _ c.is_guard.ensures.1 c.if-is_guard.true)))
     (λ c. omega arith)
     -- returns
     (λ c.
@@ -201,7 +201,7 @@ plain_ok t = cycle.Lts-plain.spec (plain-cs t).claims (at plain-rank t) plain-ra
     (λ c κs. tt)
     -- leave-requires
     (λ c κs.
-    pair c.requires (leave-positive _ c.is_leave.ensures.1 c.if-is_leave.true))
+    pair c.requires.1 (leave-positive _ c.is_leave.ensures.1 c.if-is_leave.true))
     (λ c. omega arith)
     -- returns-2
     (λ c.
@@ -225,10 +225,10 @@ plain_ok t = cycle.Lts-plain.spec (plain-cs t).claims (at plain-rank t) plain-ra
     c.if-is_leave.false c.in_default.in_default-own.rest c.bare.ensures.1)
 
 abbrev pub test-cs : ℕ → Calls cycle.Lts-test.Claims
-test-cs t = calls-5 free_of expect (below expr_rank t) (below cmd-rank t) node
+test-cs t = calls-5 free-of expect (below expr_rank t) (below cmd-rank t) node
 
 pub test-ok : {M : Type 1} (t : ℕ) → cycle.Lts-test.Closed (test-cs t).claims (at test-rank t) test-rank.post M
-test-ok t = cycle.Lts-test.spec (test-cs t).claims (at test-rank t) test-rank.post (record { claim-own-requires = test-rank.pre; of-own-requires = λ κs a q. q.1; measure-claim = measured-at test-rank t; measure-of = λ κs a q. q.0; }) (λ c κs. tt) (λ c κs. omega arith)
+test-ok t = cycle.Lts-test.spec (test-cs t).claims (at test-rank t) test-rank.post (λ c κs. tt) (λ c κs. omega arith)
     (λ c κs. pair (omega arith) (pair (past-symbol refl c.expect-word.ensures) (omega arith)))
     (λ c κs. let e = c.expr-condition in pair (past-expression refl e.ensures e.auto.s) (omega arith))
     (λ c κs. pair (omega arith) (past-symbol refl c.expect-then.ensures))
@@ -243,10 +243,10 @@ test-ok t = cycle.Lts-test.spec (test-cs t).claims (at test-rank t) test-rank.po
     c.node.ensures.1) refl)
 
 abbrev pub when-cs : ℕ → Calls cycle.Lts-when.Claims
-when-cs t = calls-5 free_of expect (below expr_rank t) (below cmd-rank t) node
+when-cs t = calls-5 free-of expect (below expr_rank t) (below cmd-rank t) node
 
 pub when-ok : {M : Type 1} (t : ℕ) → cycle.Lts-when.Closed (when-cs t).claims (at when-rank t) when-rank.post M
-when-ok t = cycle.Lts-when.spec (when-cs t).claims (at when-rank t) when-rank.post (record { claim-own-requires = when-rank.pre; of-own-requires = λ κs a q. q.1; measure-claim = measured-at when-rank t; measure-of = λ κs a q. q.0; }) (λ c κs. tt) (λ c κs. omega arith)
+when-ok t = cycle.Lts-when.spec (when-cs t).claims (at when-rank t) when-rank.post (λ c κs. tt) (λ c κs. omega arith)
     (λ c κs. pair (omega arith) (pair (past-symbol refl c.expect-word.ensures) (omega arith)))
     (λ c κs. let e = c.expr-condition in pair (past-expression refl e.ensures e.auto.s) (omega arith))
     (λ c κs. pair (omega arith) (past-symbol refl c.expect-then.ensures))
@@ -258,10 +258,10 @@ when-ok t = cycle.Lts-when.spec (when-cs t).claims (at when-rank t) when-rank.po
     c.expr-condition.ensures.1 with c.expect-then.ensures.1 with c.cmd-a.ensures.1 adding c.node.ensures.1) refl)
 
 abbrev pub give-cs : ℕ → Calls cycle.Lts-give.Claims
-give-cs t = calls-5 free_of place_here expect (below expr_rank t) node
+give-cs t = calls-5 free-of place_here expect (below expr_rank t) node
 
 pub give-ok : {M : Type 1} (t : ℕ) → cycle.Lts-give.Closed (give-cs t).claims (at give-rank t) give-rank.post M
-give-ok t = cycle.Lts-give.spec (give-cs t).claims (at give-rank t) give-rank.post (record { claim-own-requires = give-rank.pre; of-own-requires = λ κs a q. q.1; measure-claim = measured-at give-rank t; measure-of = λ κs a q. q.0; }) (λ c κs. tt) (λ c κs. omega arith) (λ c κs. omega arith)
+give-ok t = cycle.Lts-give.spec (give-cs t).claims (at give-rank t) give-rank.post (λ c κs. tt) (λ c κs. omega arith) (λ c κs. omega arith)
     (λ c κs. pair (omega arith) (pair (past-symbol refl c.expect-word.ensures) (omega arith)))
     (λ c κs. ready-leaves c.expr-a.ensures.1.0 c.expr-a.auto.s refl
     (past-symbol refl c.expect-word.ensures)) (λ c. omega arith)
@@ -271,10 +271,10 @@ give-ok t = cycle.Lts-give.spec (give-cs t).claims (at give-rank t) give-rank.po
     with c.expr-a.ensures.1 adding c.node.ensures.1) refl)
 
 abbrev pub bare-cs : ℕ → Calls cycle.Lts-bare.Claims
-bare-cs t = calls-7 free_of (below expr_rank t) kind-here goes-on-assignment (below set-rank t) is_call refuse
+bare-cs t = calls-7 free-of (below expr_rank t) kind-here goes-on-assignment (below set-rank t) is_call refuse
 
 pub bare-ok : {M : Type 1} (t : ℕ) → cycle.Lts-bare.Closed (bare-cs t).claims (at bare-rank t) bare-rank.post M
-bare-ok t = cycle.Lts-bare.spec (bare-cs t).claims (at bare-rank t) bare-rank.post (record { claim-own-requires = bare-rank.pre; of-own-requires = λ κs a q. q.1; measure-claim = measured-at bare-rank t; measure-of = λ κs a q. q.0; }) (λ c κs. tt) (λ c κs. omega arith)
+bare-ok t = cycle.Lts-bare.spec (bare-cs t).claims (at bare-rank t) bare-rank.post (λ c κs. tt) (λ c κs. omega arith)
     (λ c κs. let e = c.expr-first in past-expression refl e.ensures e.auto.s) (λ c κs. tt)
     (λ c κs. pair (omega arith) c.kind_here-kind.ensures.0) (λ c. omega arith)
     -- returns
@@ -283,7 +283,7 @@ bare-ok t = cycle.Lts-bare.spec (bare-cs t).claims (at bare-rank t) bare-rank.po
     (λ src l. (let l₁ = lies-still l c.expr-first.ensures.1.0.kept in
     assignment-first src _ _ (c.kind_here-kind.ensures.1 src l₁) (c.expr-first.ensures.1.1 src l) c.free_of-lo.ensures.1
     (sym c.goes_on_assignment.ensures.1 ∙ c.if-goes_on_assignment.true) (c.set.ensures.1.1 src l₁).0
-    (λ e q. (c.set.ensures.1.1 src l₁).1 e (ap (λ (z : ℕ). c z c.expr-first.result) c.expr-first.auto.s ∙ q)))))
+    (λ e q. (c.set.ensures.1.1 src l₁).1 e (ap (λ (z : ℕ). free_of z c.expr-first.result) c.expr-first.auto.s ∙ q)))))
     (λ c κs. c.kind_here-kind.ensures.0) (λ c. omega arith)
     -- returns-2
     (λ c.
@@ -300,16 +300,16 @@ bare-ok t = cycle.Lts-bare.spec (bare-cs t).claims (at bare-rank t) bare-rank.po
     (refuses-on c.refuse.ensures.1.1))))
 
 abbrev pub set-cs : ℕ → Calls cycle.Lts-set.Claims
-set-cs t = calls-7 free_of minus (below also-rank t) expect (below arg-rank t) (below rest-rank t) node
+set-cs t = calls-7 free-of minus (below also-rank t) expect (below arg-rank t) (below rest-rank t) node
 
 pub set-ok : {M : Type 1} (t : ℕ) → cycle.Lts-set.Closed (set-cs t).claims (at set-rank t) set-rank.post M
 set-ok t =
-    cycle.Lts-set.spec (set-cs t).claims (at set-rank t) set-rank.post (record { claim-own-requires = set-rank.pre; of-own-requires = λ κs a q. q.1; measure-claim = measured-at set-rank t; measure-of = λ κs a q. q.0; }) (λ c κs. tt) (λ c κs. tt) (λ c κs. omega arith) (λ c κs. tt) (λ c κs. tt)
+    cycle.Lts-set.spec (set-cs t).claims (at set-rank t) set-rank.post (λ c κs. tt) (λ c κs. tt) (λ c κs. omega arith) (λ c κs. tt) (λ c κs. tt)
     (λ c κs. let e = c.also-left in pair (past-part refl e.ensures e.auto.s) (omega arith))
     (λ c κs. pair (omega arith) (past-symbol refl c.expect-word.ensures))
     -- rest-requires
     (λ c κs.
-    pair (omega (arith, c.decreases)) (ready-takes c.arg-first.ensures.1.0 c.arg-first.auto.s (ready-part c.arg-first.ensures.0.1 refl)))
+    pair (omega (arith, c.requires.0)) (ready-takes c.arg-first.ensures.1.0 c.arg-first.auto.s (ready-part c.arg-first.ensures.0.1 refl)))
     -- cast-node
     (λ c.
     let small = size_small _ c.minus-size.ensures.1 c.free_of.ensures.1 c.also-left.ensures.0.1 in omega arith)

@@ -30,9 +30,6 @@ module _ (m : Member) (t : ℕ) where
   abbrev pub at : In 1 m.ps
   at = and 1 m.ps (is 1 m.ps m.measure t) m.pre
 
-  abbrev pub measured-at : In 1 m.ps
-  measured-at = is 1 m.ps m.measure t
-
   abbrev pub below : Callee
   below = callee m.ps m.r (and 1 m.ps (falls 1 m.ps ◌<◌ m.measure t) m.pre) m.post m.name
 
@@ -114,8 +111,8 @@ close-item = callee s.close_item.Kinds.ps s.close_item.Kinds.r s.close_item.Read
 abbrev pub expect : Callee
 expect = callee s.expect.Kinds.ps s.expect.Kinds.r s.expect.Reads.Asked s.expect.Reads.Learnt "tree::scratch::expect"
 
-abbrev pub free_of : Callee
-free_of = callee s.free_of.Kinds.ps s.free_of.Kinds.r s.free_of.Reads.Asked s.free_of.Reads.Learnt "tree::scratch::free_of"
+abbrev pub free-of : Callee
+free-of = callee s.free_of.Kinds.ps s.free_of.Kinds.r s.free_of.Reads.Asked s.free_of.Reads.Learnt "tree::scratch::free_of"
 
 abbrev pub is_call : Callee
 is_call = callee s.is_call.Kinds.ps s.is_call.Kinds.r s.is_call.Reads.Asked s.is_call.Reads.Learnt "tree::scratch::is_call"

@@ -26,20 +26,20 @@ use Rattle.tree.specs.Between.{a_further}
 use Rattle.tree.specs.Encoding.{encode_expressions}
 use Rattle.tree.specs.Reads.{Encodes}
 use Rattle.tree.proofs.Wholes.{leaves, takes, of-kind, ◌from◌, ◌writing◌, ◌with◌, ◌adding◌, ◌setting◌}
-use cycle.Proof.Ranks.{measured-at, Calls, also-rank, arg-rank, at, atom, begin-item, below, call-rank, calls-10, calls-2, calls-3, calls-4, calls-5, calls-6}
-use cycle.Proof.Ranks.{close-item, cmd-rank, expect, expr_rank, free_of, index-rank, is-monadic, is-suffix, unary-rank, kind-here, minus, monad-rank}
+use cycle.Proof.Ranks.{Calls, also-rank, arg-rank, at, atom, begin-item, below, call-rank, calls-10, calls-2, calls-3, calls-4, calls-5, calls-6}
+use cycle.Proof.Ranks.{close-item, cmd-rank, expect, expr_rank, free-of, index-rank, is-monadic, is-suffix, unary-rank, kind-here, minus, monad-rank}
 use cycle.Proof.Ranks.{nest-rank, node, pass-rank, place_here, place_of, refuse, rest-rank, set-size, suffixed-kind, tail-rank, tails-rank, unit-rank}
 use cycle.Proof.Ranks.{valof-rank, whole-rank}
 
 abbrev pub whole-cs : ℕ → Calls cycle.Lts-whole.Claims
-whole-cs t = calls-10 free_of (below unit-rank t) kind-here is-suffix minus place_of (below tail-rank t) (below tails-rank t) suffixed-kind node
+whole-cs t = calls-10 free-of (below unit-rank t) kind-here is-suffix minus place_of (below tail-rank t) (below tails-rank t) suffixed-kind node
 
 pub whole-ok : {M : Type 1} (t : ℕ) → cycle.Lts-whole.Closed (whole-cs t).claims (at whole-rank t) whole-rank.post M
-whole-ok t = cycle.Lts-whole.spec (whole-cs t).claims (at whole-rank t) whole-rank.post (record { claim-own-requires = whole-rank.pre; of-own-requires = λ κs a q. q.1; measure-claim = measured-at whole-rank t; measure-of = λ κs a q. q.0; }) (λ c κs. tt) (λ c κs. omega arith)
+whole-ok t = cycle.Lts-whole.spec (whole-cs t).claims (at whole-rank t) whole-rank.post (λ c κs. tt) (λ c κs. omega arith)
     (λ c κs. let e = c.unit-primary in past-part refl e.ensures e.auto.s) (λ c κs. tt) (λ c κs. tt) (λ c κs. tt)
     (λ c κs. c.kind_here-kind.ensures.0) (λ c κs. pair (omega arith) c.place_of-place.ensures.0)
     -- tails-requires
-    (λ c κs. pair (omega (arith, c.decreases)) (past-part refl c.tail-first.ensures c.tail-first.auto.s))
+    (λ c κs. pair (omega (arith, c.requires.0)) (past-part refl c.tail-first.ensures c.tail-first.auto.s))
     -- cast-node
     (λ c.
     let small = size_small _ c.minus-size.ensures.1 c.free_of.ensures.1
@@ -71,7 +71,7 @@ unit-cs t = calls-4 kind-here (below nest-rank t) (below valof-rank t) atom
 
 pub unit_ok : {M : Type 1} (t : ℕ) → cycle.Lts-unit.Closed (unit-cs t).claims (at unit-rank t) unit-rank.post M
 unit_ok t =
-    cycle.Lts-unit.spec (unit-cs t).claims (at unit-rank t) unit-rank.post (record { claim-own-requires = unit-rank.pre; of-own-requires = λ κs a q. q.1; measure-claim = measured-at unit-rank t; measure-of = λ κs a q. q.0; }) (λ c κs. omega arith) (λ c κs. omega arith) (λ c κs. omega arith)
+    cycle.Lts-unit.spec (unit-cs t).claims (at unit-rank t) unit-rank.post (λ c κs. omega arith) (λ c κs. omega arith) (λ c κs. omega arith)
     (λ c κs. omega arith) (λ c. omega arith)
     (λ c. primary-bracketed _ c.kind_here-kind.ensures.1 c.in-51.is
     c.nest.ensures.1) (λ c. omega arith)
@@ -81,10 +81,10 @@ unit_ok t =
     c.atom.ensures.1)
 
 abbrev pub nest-cs : ℕ → Calls cycle.Lts-nest.Claims
-nest-cs t = calls-6 refuse free_of place_here expect (below expr_rank t) node
+nest-cs t = calls-6 refuse free-of place_here expect (below expr_rank t) node
 
 pub nest-ok : {M : Type 1} (t : ℕ) → cycle.Lts-nest.Closed (nest-cs t).claims (at nest-rank t) nest-rank.post M
-nest-ok t = cycle.Lts-nest.spec (nest-cs t).claims (at nest-rank t) nest-rank.post (record { claim-own-requires = nest-rank.pre; of-own-requires = λ κs a q. q.1; measure-claim = measured-at nest-rank t; measure-of = λ κs a q. q.0; }) (λ c κs. omega arith) (λ c. omega arith)
+nest-ok t = cycle.Lts-nest.spec (nest-cs t).claims (at nest-rank t) nest-rank.post (λ c κs. omega arith) (λ c. omega arith)
     (λ c. bracketed-shut _ c.if-levels-eq0.true c.refuse.ensures.1) (λ c κs. tt) (λ c κs. omega arith) (λ c κs. omega arith)
     (λ c. omega arith) (λ c κs. pair (omega arith) (pair (past-symbol refl c.expect-open.ensures) (omega arith)))
     (λ c κs. let e = c.expr-inner in pair (past-expression refl e.ensures e.auto.s) (omega arith))
@@ -96,10 +96,10 @@ nest-ok t = cycle.Lts-nest.spec (nest-cs t).claims (at nest-rank t) nest-rank.po
     c.expect-open.ensures.1 with c.expr-inner.ensures.1 with c.expect-a.ensures.1 adding c.node.ensures.1) refl)
 
 abbrev pub valof-cs : ℕ → Calls cycle.Lts-valof.Claims
-valof-cs t = calls-6 refuse free_of place_here expect (below cmd-rank t) node
+valof-cs t = calls-6 refuse free-of place_here expect (below cmd-rank t) node
 
 pub valof-ok : {M : Type 1} (t : ℕ) → cycle.Lts-valof.Closed (valof-cs t).claims (at valof-rank t) valof-rank.post M
-valof-ok t = cycle.Lts-valof.spec (valof-cs t).claims (at valof-rank t) valof-rank.post (record { claim-own-requires = valof-rank.pre; of-own-requires = λ κs a q. q.1; measure-claim = measured-at valof-rank t; measure-of = λ κs a q. q.0; }) (λ c κs. omega arith) (λ c. omega arith)
+valof-ok t = cycle.Lts-valof.spec (valof-cs t).claims (at valof-rank t) valof-rank.post (λ c κs. omega arith) (λ c. omega arith)
     (λ c. valof-shut _ c.if-levels-eq0.true c.refuse.ensures.1) (λ c κs. tt) (λ c κs. omega arith) (λ c κs. omega arith)
     (λ c. omega arith) (λ c κs. pair (omega arith) (past-symbol refl c.expect-word.ensures))
     (λ c κs. ready-leaves c.cmd-a.ensures.1.0 c.cmd-a.auto.s refl
@@ -113,29 +113,29 @@ abbrev pub tail-cs : ℕ → Calls cycle.Lts-tail.Claims
 tail-cs t = calls-2 (below call-rank t) (below index-rank t)
 
 pub tail-ok : {M : Type 1} (t : ℕ) → cycle.Lts-tail.Closed (tail-cs t).claims (at tail-rank t) tail-rank.post M
-tail-ok t = cycle.Lts-tail.spec (tail-cs t).claims (at tail-rank t) tail-rank.post (record { claim-own-requires = tail-rank.pre; of-own-requires = λ κs a q. q.1; measure-claim = measured-at tail-rank t; measure-of = λ κs a q. q.0; }) (λ c κs. omega arith) (λ c κs. omega arith) (λ c. omega arith)
+tail-ok t = cycle.Lts-tail.spec (tail-cs t).claims (at tail-rank t) tail-rank.post (λ c κs. omega arith) (λ c κs. omega arith) (λ c. omega arith)
     (λ c. suffix-arguments _ c.if-kind-eq-OPEN.true c.call.ensures.1) (λ c. omega arith)
     (λ c. suffix-index _ c.if-kind-eq-OPEN.false c.index.ensures.1)
 
 abbrev pub tails-cs : ℕ → Calls cycle.Lts-tails.Claims
 tails-cs t = calls-4 minus kind-here is-suffix (below tail-rank t)
 
-abbrev tails-inv : cycle.Lts-tails.invariant-loop
+abbrev tails-inv : cycle.Lts-tails.invariant-loop-turns
 tails-inv s₀ n levels first turns₀ call₀ a₀ s turns call a =
     SoFar (EndedSoFar call₀ call) (many_up_to turns₀ T.no_suffixes is_suffix (E.suffix (within levels)))
     (many_up_to turns T.no_suffixes is_suffix (E.suffix (within levels))) s₀ s n a₀ a
 
-abbrev tails-turns : cycle.Lts-tails.decreases-loop
+abbrev tails-turns : cycle.Lts-tails.decreases-loop-turns
 tails-turns s₀ n levels first turns₀ call₀ a₀ s turns call a = turns
 
 pub tails-ok : {M : Type 1} (t : ℕ) → cycle.Lts-tails.Closed (tails-cs t).claims (at tails-rank t) tails-rank.post M
-tails-ok t = cycle.Lts-tails.spec (tails-cs t).claims (at tails-rank t) tails-rank.post tails-inv tails-turns (record { claim-own-requires = tails-rank.pre; of-own-requires = λ κs a q. q.1; measure-claim = measured-at tails-rank t; measure-of = λ κs a q. q.0; }) (λ c κs. tt)
-    (λ c. so-begins c.requires suffix-first)
+tails-ok t = cycle.Lts-tails.spec (tails-cs t).claims (at tails-rank t) tails-rank.post tails-inv tails-turns (λ c κs. tt)
+    (λ c. so-begins c.requires.1 suffix-first)
     (λ c κs. ready-leaves c.loop-turns.invariant.room c.loop-turns.invariant.same refl
-    c.requires) (λ c κs. tt)
+    c.requires.1) (λ c κs. tt)
     (λ c κs. pair (omega arith) (ready-leaves c.loop-turns.invariant.room
     c.loop-turns.invariant.same refl
-    c.requires)) (λ c. omega arith) (λ c. omega arith)
+    c.requires.1)) (λ c. omega arith) (λ c. omega arith)
     -- loop-again
     (λ c.
     many-turns _ _ _ _ suffix-next c.loop-turns.invariant c.kind_here-kind.ensures.1 (sym c.is_suffix.ensures.1 ∙ c.if-is_suffix.true)
@@ -149,10 +149,10 @@ tails-ok t = cycle.Lts-tails.spec (tails-cs t).claims (at tails-rank t) tails-ra
     (λ c. many-spent _ _ _ _ suffix_last no-suffix-ended c.minus-turns.ensures.1 c.loop-turns.invariant (omega arith))
 
 abbrev pub call-cs : ℕ → Calls cycle.Lts-call.Claims
-call-cs t = calls-5 refuse free_of expect (below pass-rank t) close-item
+call-cs t = calls-5 refuse free-of expect (below pass-rank t) close-item
 
 pub call_ok : {M : Type 1} (t : ℕ) → cycle.Lts-call.Closed (call-cs t).claims (at call-rank t) call-rank.post M
-call_ok t = cycle.Lts-call.spec (call-cs t).claims (at call-rank t) call-rank.post (record { claim-own-requires = call-rank.pre; of-own-requires = λ κs a q. q.1; measure-claim = measured-at call-rank t; measure-of = λ κs a q. q.0; }) (λ c κs. omega arith) (λ c. omega arith)
+call_ok t = cycle.Lts-call.spec (call-cs t).claims (at call-rank t) call-rank.post (λ c κs. omega arith) (λ c. omega arith)
     (λ c. arguments-shut _ c.if-levels-eq0.true c.refuse.ensures.1) (λ c κs. tt) (λ c κs. omega arith) (λ c. omega arith)
     (λ c κs. pair (omega arith) (past-symbol refl c.expect-open.ensures)) (λ c κs. let pass = c.pass-a in
     ready-leaves pass.ensures.1.0 pass.auto.s refl (ready-part pass.ensures.0.1 refl)) (λ c. omega arith)
@@ -165,7 +165,7 @@ abbrev pub pass-cs : ℕ → Calls cycle.Lts-pass.Claims
 pass-cs t = calls-4 kind-here expect (below arg-rank t) (below also-rank t)
 
 pub pass-ok : {M : Type 1} (t : ℕ) → cycle.Lts-pass.Closed (pass-cs t).claims (at pass-rank t) pass-rank.post M
-pass-ok t = cycle.Lts-pass.spec (pass-cs t).claims (at pass-rank t) pass-rank.post (record { claim-own-requires = pass-rank.pre; of-own-requires = λ κs a q. q.1; measure-claim = measured-at pass-rank t; measure-of = λ κs a q. q.0; }) (λ c κs. omega arith) (λ c κs. omega arith) (λ c. omega arith)
+pass-ok t = cycle.Lts-pass.spec (pass-cs t).claims (at pass-rank t) pass-rank.post (λ c κs. omega arith) (λ c κs. omega arith) (λ c. omega arith)
     (λ c. (
       leaves-less c.expect.ensures.1.0 refl,
       λ src l. no_arguments src _ (c.kind_here-kind.ensures.1 src l)
@@ -182,10 +182,10 @@ pass-ok t = cycle.Lts-pass.spec (pass-cs t).claims (at pass-rank t) pass-rank.po
     (again (Encodes encode_expressions) (λ es w h. record { same = h.same }) (c.also-last.ensures.1.1 src l₁)) (c.expect-2.ensures.1.1 src l₂))))
 
 abbrev pub arg-cs : ℕ → Calls cycle.Lts-arg.Claims
-arg-cs t = calls-4 free_of begin-item (below expr_rank t) set-size
+arg-cs t = calls-4 free-of begin-item (below expr_rank t) set-size
 
 pub arg-ok : {M : Type 1} (t : ℕ) → cycle.Lts-arg.Closed (arg-cs t).claims (at arg-rank t) arg-rank.post M
-arg-ok t = cycle.Lts-arg.spec (arg-cs t).claims (at arg-rank t) arg-rank.post (record { claim-own-requires = arg-rank.pre; of-own-requires = λ κs a q. q.1; measure-claim = measured-at arg-rank t; measure-of = λ κs a q. q.0; }) (λ c κs. tt) (λ c κs. omega arith)
+arg-ok t = cycle.Lts-arg.spec (arg-cs t).claims (at arg-rank t) arg-rank.post (λ c κs. tt) (λ c κs. omega arith)
     (λ c κs. let begin-item = c.begin_item-begun in
     pair (omega arith) (pair (ready-takes begin-item.ensures.1.0 begin-item.auto.s begin-item.ensures.0) (omega arith)))
     -- set-size-requires
@@ -201,19 +201,19 @@ arg-ok t = cycle.Lts-arg.spec (arg-cs t).claims (at arg-rank t) arg-rank.post (r
 abbrev pub also-cs : ℕ → Calls cycle.Lts-also.Claims
 also-cs t = calls-3 kind-here expect (below arg-rank t)
 
-abbrev also-inv : cycle.Lts-also.invariant-loop
+abbrev also-inv : cycle.Lts-also.invariant-loop-turns
 also-inv s₀ n levels turns₀ count₀ a₀ s turns count a =
     SoFar (CountedSoFar count) (many_up_to turns₀ T.no_expressions is_comma (a_further levels)) (many_up_to turns T.no_expressions is_comma (a_further levels))
     s₀ s n a₀ a × (count + turns ≡ count₀ + turns₀)
 
-abbrev also-turns : cycle.Lts-also.decreases-loop
+abbrev also-turns : cycle.Lts-also.decreases-loop-turns
 also-turns s₀ n levels turns₀ count₀ a₀ s turns count a = turns
 
 pub also-ok : {M : Type 1} (t : ℕ) → cycle.Lts-also.Closed (also-cs t).claims (at also-rank t) also-rank.post M
-also-ok t = cycle.Lts-also.spec (also-cs t).claims (at also-rank t) also-rank.post also-inv also-turns (record { claim-own-requires = also-rank.pre; of-own-requires = λ κs a q. q.1; measure-claim = measured-at also-rank t; measure-of = λ κs a q. q.0; })
-    (λ c. (so-begins c.requires expression-first, refl))
+also-ok t = cycle.Lts-also.spec (also-cs t).claims (at also-rank t) also-rank.post also-inv also-turns
+    (λ c. (so-begins c.requires.1 expression-first, refl))
     (λ c κs. ready-leaves c.loop-turns.invariant.0.room c.loop-turns.invariant.0.same refl
-    c.requires) (λ c. omega arith)
+    c.requires.1) (λ c. omega arith)
     (λ c. many-ends _ _ _ _ expression-last no-expression-counted refl c.loop-turns.invariant.0
     c.kind_here-kind.ensures.1 (ne_eqb _ _ c.if-kind-ne-COMMA.true)) (λ c κs. pair c.kind_here-kind.ensures.0 (omega arith))
     (λ c κs. pair (omega arith) (past-symbol refl c.expect-comma.ensures)) (λ c. omega arith) (λ c. omega arith) (λ c. omega arith)
@@ -227,33 +227,33 @@ also-ok t = cycle.Lts-also.spec (also-cs t).claims (at also-rank t) also-rank.po
 abbrev pub rest-cs : ℕ → Calls cycle.Lts-rest.Claims
 rest-cs t = calls-2 expect (below arg-rank t)
 
-abbrev rest-inv : cycle.Lts-rest.invariant-loop
+abbrev rest-inv : cycle.Lts-rest.invariant-loop-left
 rest-inv s₀ n levels number left₀ a₀ s left a =
     SoFar (Before encode_expressions) (C.further (readers (within levels)) left₀) (C.further (readers (within levels)) left) s₀ s n a₀ a
 
-abbrev rest-turns : cycle.Lts-rest.decreases-loop
+abbrev rest-turns : cycle.Lts-rest.decreases-loop-left
 rest-turns s₀ n levels number left₀ a₀ s left a = left
 
 pub rest_ok : {M : Type 1} (t : ℕ) → cycle.Lts-rest.Closed (rest-cs t).claims (at rest-rank t) rest-rank.post M
 rest_ok t =
-    cycle.Lts-rest.spec (rest-cs t).claims (at rest-rank t) rest-rank.post rest-inv rest-turns (record { claim-own-requires = rest-rank.pre; of-own-requires = λ κs a q. q.1; measure-claim = measured-at rest-rank t; measure-of = λ κs a q. q.0; }) (λ c. so-begins c.requires before-first)
+    cycle.Lts-rest.spec (rest-cs t).claims (at rest-rank t) rest-rank.post rest-inv rest-turns (λ c. so-begins c.requires.1 before-first)
     (λ c κs. pair (ready-leaves c.loop-left.invariant.room c.loop-left.invariant.same refl
-    c.requires) (omega arith))
+    c.requires.1) (omega arith))
     (λ c κs. pair (omega arith) (past-symbol refl c.expect-comma.ensures)) (λ c. omega arith) (λ c. omega arith)
     -- loop-again
     (λ c.
     so-turns c.loop-left.invariant
-    (C.further (readers (within c.args.levels)) (c.loop-left.false - 1)) value-next
+    (C.further (readers (within c.args.levels)) (c.loop-left.left - 1)) value-next
     (further-reads _ c.expect-comma.ensures.1 c.arg-a.ensures.1) c.arg-a.auto.s
-    (λ src l at free e. value-turn c.args.levels src c.loop-left.false at (omega arith)))
+    (λ src l at free e. value-turn c.args.levels src c.loop-left.left at (omega arith)))
     (λ c. omega arith) (λ c. so-ends c.loop-left.invariant T.no_expressions before_last (wordless no-expression-words)
     (λ src l at free e. value-last c.args.levels src _ at (omega arith)))
 
 abbrev pub index-cs : ℕ → Calls cycle.Lts-index.Claims
-index-cs t = calls-4 free_of expect (below unary-rank t) close-item
+index-cs t = calls-4 free-of expect (below unary-rank t) close-item
 
 pub index_ok : {M : Type 1} (t : ℕ) → cycle.Lts-index.Closed (index-cs t).claims (at index-rank t) index-rank.post M
-index_ok t = cycle.Lts-index.spec (index-cs t).claims (at index-rank t) index-rank.post (record { claim-own-requires = index-rank.pre; of-own-requires = λ κs a q. q.1; measure-claim = measured-at index-rank t; measure-of = λ κs a q. q.0; }) (λ c κs. tt) (λ c κs. omega arith)
+index_ok t = cycle.Lts-index.spec (index-cs t).claims (at index-rank t) index-rank.post (λ c κs. tt) (λ c κs. omega arith)
     (λ c κs. pair (omega arith) (past-symbol refl c.expect-pling.ensures))
     (λ c κs. ready-leaves c.unary-a.ensures.1.0 c.unary-a.auto.s refl
     (past-symbol refl c.expect-pling.ensures)) (λ c. omega arith)
@@ -267,10 +267,10 @@ abbrev pub unary-cs : ℕ → Calls cycle.Lts-unary.Claims
 unary-cs t = calls-4 kind-here is-monadic (below monad-rank t) (below unit-rank t)
 
 pub unary-ok : {M : Type 1} (t : ℕ) → cycle.Lts-unary.Closed (unary-cs t).claims (at unary-rank t) unary-rank.post M
-unary-ok t = cycle.Lts-unary.spec (unary-cs t).claims (at unary-rank t) unary-rank.post (record { claim-own-requires = unary-rank.pre; of-own-requires = λ κs a q. q.1; measure-claim = measured-at unary-rank t; measure-of = λ κs a q. q.0; }) (λ c κs. omega arith) (λ c κs. tt)
+unary-ok t = cycle.Lts-unary.spec (unary-cs t).claims (at unary-rank t) unary-rank.post (λ c κs. omega arith) (λ c κs. tt)
     -- monad-requires
     (λ c κs.
-    pair (omega arith) (pair c.requires (monadic-positive _ c.is_monadic.ensures.1 c.if-is_monadic.true)))
+    pair (omega arith) (pair c.requires.1 (monadic-positive _ c.is_monadic.ensures.1 c.if-is_monadic.true)))
     (λ c κs. omega arith) (λ c. omega arith)
     -- returns
     (λ c.
