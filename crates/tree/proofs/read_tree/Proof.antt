@@ -6,7 +6,7 @@ pub read_tree_spec : {M : Type 1} → Rattle.tree.proofs.read_tree.Statement.sta
 read_tree_spec = tie.close (tie.spec (search needs) (search needs) (λ c. tree-short _ _ _ (sym c.too_short.ensures ∙ c.if-too_short.true))
     -- mul-start
     (λ c.
-    let h = starts c.args.scratch-1.now c.args.count (sym c.too_short.ensures ∙ c.if-too_short.false) in
+    let h = starts c.args.scratch.now c.args.count (sym c.too_short.ensures ∙ c.if-too_short.false) in
     omega (arith, h.wide, h.small))
     (λ c κs. starts _ _ (sym c.too_short.ensures ∙ c.if-too_short.false)) (search needs)
     -- clear-from-requires
@@ -15,11 +15,11 @@ read_tree_spec = tie.close (tie.spec (search needs) (search needs) (λ c. tree-s
     c.in-Read.is in omega arith) (search needs)
     -- place-at-requires
     (λ c κs.
-    let h = starts c.args.scratch-1.now c.args.count
+    let h = starts c.args.scratch.now c.args.count
     (sym c.too_short.ensures ∙ c.if-too_short.false) in omega (arith, h.wide, c.program.auto.s))
     -- clear-from-requires-2
     (λ c κs.
-    let h = starts c.args.scratch-1.now c.args.count (sym c.too_short.ensures ∙ c.if-too_short.false) in
+    let h = starts c.args.scratch.now c.args.count (sym c.too_short.ensures ∙ c.if-too_short.false) in
     omega (arith, h.wide, c.program.auto.s)) (search needs)
     -- returns-2
     (λ c.

@@ -50,6 +50,6 @@ function_spec = tie.close (tie.spec (λ c κs. search needs) (λ c κs. c.requir
     ∙ c.begin_item-begun.auto.s in leaves ((λ src l b e d f p z. function-here src _ c.free_of-lo.ensures (low c.requires) b
     (freed _ c.free_of-start.ensures c.begin_item-begun.auto.s) e d f
     (for-size _ _ c.minus-size.ensures c.free_of.ensures c.free_of-2.ensures same)
-    (λ name names q. p.1 name names (ap (λ (z : ℕ). e z c.parameters-parameters.result) same ∙ q)) p.0 z) writing
+    (λ name names q. p.1 name names (ap (λ (z : ℕ). free_of z c.parameters-parameters.result) same ∙ q)) p.0 z) writing
     c.begin_item-begun.ensures with c.a_name-name.ensures with c.expect-open.ensures with c.parameters-parameters.ensures with
     c.function_body-a.ensures setting c.set_size.ensures) refl))
