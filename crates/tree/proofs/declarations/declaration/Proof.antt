@@ -6,8 +6,7 @@ use Rattle.tree.proofs.Steps.{pair}
 use Rattle.tree.proofs.declarations.declaration.Tie as tie
 
 returns-3 : tie.Need-returns-in_default
-returns-3 c =
-    pair (leaves-less c.functions.ensures.0 refl)
+returns-3 c = pair (leaves-less c.functions.ensures.0 refl)
     (λ src l h. (let u = unlike2 c.in_default.in_default-own.rest in declaration-functions src h u.0 u.1
     (c.functions.ensures.1 src l)))
 

@@ -21,15 +21,13 @@ declarations_spec = tie.close (tie.spec invariant-loop decreases-loop (λ c. so-
     (λ c κs. pair (omega arith) (declaration-positive _ c.is_declaration.ensures c.if-is_declaration.true)) (search needs)
     (λ c. omega arith)
     -- loop-again
-    (λ c.
-    many-turns _ _ _ _ before-next c.loop-turns.invariant
+    (λ c. many-turns _ _ _ _ before-next c.loop-turns.invariant
     c.kind_here-kind.ensures (sym c.is_declaration.ensures ∙ c.if-is_declaration.true) (
       c.declared-a.ensures.0,
       λ src l k. c.declared-a.ensures.1 src l k (sym c.is_declaration.ensures ∙ c.if-is_declaration.true),
     ) c.declared-a.auto.s (omega
     arith)) (search needs)
     -- returns
-    (λ c.
-    many-ends _ _ _ _ before_last (wordless no-program-words) refl c.loop-turns.invariant c.kind_here-kind.ensures
+    (λ c. many-ends _ _ _ _ before_last (wordless no-program-words) refl c.loop-turns.invariant c.kind_here-kind.ensures
     (sym c.is_declaration.ensures ∙ c.if-is_declaration.false))
     (search needs) (λ c. many-spent _ _ _ _ before_last (wordless no-program-words) refl c.loop-turns.invariant (omega arith)))

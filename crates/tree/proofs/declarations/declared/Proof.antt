@@ -9,17 +9,14 @@ use Rattle.tree.proofs.Wholes.{leaves, ◌from◌, ◌with◌, ◌adding◌, ◌
 pub declared_spec : {M : Type 1} → Rattle.tree.proofs.declarations.declared.Statement.statement M
 declared_spec = tie.close (tie.spec (search needs) (search needs) (search needs)
     -- declaration-requires
-    (λ c κs.
-    ready-takes c.begin_item-begun.ensures.0 c.begin_item-begun.auto.s
+    (λ c κs. ready-takes c.begin_item-begun.ensures.0 c.begin_item-begun.auto.s
     (ready-leaves c.expect-word.ensures.0 refl refl c.requires.0))
     -- set-size-requires
-    (λ c κs.
-    pair (ready-leaves c.declaration-a.ensures.0 c.declaration-a.auto.s refl
+    (λ c κs. pair (ready-leaves c.declaration-a.ensures.0 c.declaration-a.auto.s refl
     (ready-part (ready-takes {m = 2} c.begin_item-begun.ensures.0 c.begin_item-begun.auto.s
     (ready-leaves c.expect-word.ensures.0 refl refl c.requires.0)) refl)) (item-low c.free_of-lo.ensures c.requires.0))
     (search needs) (search needs)
     -- returns
-    (λ c.
-    leaves ((λ src l a b v d e k h. declared-read src _ k h c.free_of-lo.ensures (low-past c.requires.0 c.expect-word.ensures.0) a b
+    (λ c. leaves ((λ src l a b v d e k h. declared-read src _ k h c.free_of-lo.ensures (low-past c.requires.0 c.expect-word.ensures.0) a b
     (v h) d e) from c.expect-word.ensures adding c.begin_item-begun.ensures with c.declaration-a.ensures setting
     c.set_size.ensures with c.optional.ensures) refl))

@@ -14,39 +14,32 @@ function_spec = tie.close (tie.spec (λ c κs. search needs) (λ c κs. c.requir
     c.begin_item-begun.auto.s
     c.requires)
     -- expect-requires
-    (λ c κs.
-    pair (ready-leaves c.a_name-name.ensures.0 c.a_name-name.auto.s refl
+    (λ c κs. pair (ready-leaves c.a_name-name.ensures.0 c.a_name-name.auto.s refl
     (ready-takes c.begin_item-begun.ensures.0 c.begin_item-begun.auto.s c.requires)) (omega arith))
     -- parameters-requires
-    (λ c κs.
-    ready-leaves c.expect-open.ensures.0 refl refl (ready-leaves c.a_name-name.ensures.0 c.a_name-name.auto.s refl
+    (λ c κs. ready-leaves c.expect-open.ensures.0 refl refl (ready-leaves c.a_name-name.ensures.0 c.a_name-name.auto.s refl
     (ready-takes c.begin_item-begun.ensures.0 c.begin_item-begun.auto.s c.requires)))
     (λ c κs. search needs) (λ c κs. search needs) (λ c κs. search needs)
     -- cast-function-body
-    (λ c.
-    let small = size_small _ c.minus-size.ensures c.free_of.ensures
+    (λ c. let small = size_small _ c.minus-size.ensures c.free_of.ensures
     (ready-leaves c.parameters-parameters.ensures.0 c.parameters-parameters.auto.s refl (ready-leaves c.expect-open.ensures.0 refl refl
     (ready-leaves c.a_name-name.ensures.0 c.a_name-name.auto.s refl
     (ready-takes c.begin_item-begun.ensures.0 c.begin_item-begun.auto.s c.requires)))) in omega arith)
     -- function-body-requires
-    (λ c κs.
-    ready-leaves c.parameters-parameters.ensures.0 c.parameters-parameters.auto.s refl (ready-leaves c.expect-open.ensures.0 refl refl
+    (λ c κs. ready-leaves c.parameters-parameters.ensures.0 c.parameters-parameters.auto.s refl (ready-leaves c.expect-open.ensures.0 refl refl
     (ready-leaves c.a_name-name.ensures.0 c.a_name-name.auto.s refl
     (ready-takes c.begin_item-begun.ensures.0 c.begin_item-begun.auto.s c.requires))))
     -- set-size-requires
-    (λ c κs.
-    pair (ready-leaves c.function_body-a.ensures.0 c.function_body-a.auto.s refl
+    (λ c κs. pair (ready-leaves c.function_body-a.ensures.0 c.function_body-a.auto.s refl
     (ready-leaves c.parameters-parameters.ensures.0 c.parameters-parameters.auto.s refl (ready-leaves c.expect-open.ensures.0 refl refl
     (ready-leaves c.a_name-name.ensures.0 c.a_name-name.auto.s refl
     (ready-takes c.begin_item-begun.ensures.0 c.begin_item-begun.auto.s c.requires)))))
     (item-low c.free_of-lo.ensures (ready-part c.requires refl)))
     -- same-length
-    (λ c.
-    c.set_size.auto.s ∙ c.function_body-a.auto.s ∙ c.parameters-parameters.auto.s ∙ c.a_name-name.auto.s
+    (λ c. c.set_size.auto.s ∙ c.function_body-a.auto.s ∙ c.parameters-parameters.auto.s ∙ c.a_name-name.auto.s
     ∙ c.begin_item-begun.auto.s)
     -- returns
-    (λ c.
-    let same = c.parameters-parameters.auto.s ∙ c.a_name-name.auto.s
+    (λ c. let same = c.parameters-parameters.auto.s ∙ c.a_name-name.auto.s
     ∙ c.begin_item-begun.auto.s in leaves ((λ src l b e d f p z. function-here src _ c.free_of-lo.ensures (low c.requires) b
     (freed _ c.free_of-start.ensures c.begin_item-begun.auto.s) e d f
     (for-size _ _ c.minus-size.ensures c.free_of.ensures c.free_of-2.ensures same)

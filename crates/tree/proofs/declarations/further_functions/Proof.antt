@@ -23,7 +23,6 @@ further_functions_spec = tie.close (tie.spec invariant-loop decreases-loop (λ c
     c.kind_here-kind.ensures (ne_eqb _ _ c.if-kind-ne-AND.true))
     (λ c κs. omega arith) (λ c κs. ready-leaves c.expect-word.ensures.0 refl refl (omega arith)) (search needs) (λ c. omega arith)
     -- loop-again
-    (λ c.
-    many-turns _ _ _ _ before-next c.loop-turns.invariant c.kind_here-kind.ensures (eq-eqb _ _ c.if-kind-ne-AND.false)
+    (λ c. many-turns _ _ _ _ before-next c.loop-turns.invariant c.kind_here-kind.ensures (eq-eqb _ _ c.if-kind-ne-AND.false)
     (at-any (and-function-reads c.expect-word.ensures c.function-a.ensures)) c.function-a.auto.s (omega arith))
     (search needs) (λ c. many-spent _ _ _ _ before_last (wordless no-function-words) refl c.loop-turns.invariant (omega arith)))

@@ -19,18 +19,15 @@ pub further_items_spec : {M : Type 1} → Rattle.tree.proofs.declarations.furthe
 further_items_spec =
     tie.close (tie.spec invariant-loop decreases-loop (λ c. so-begins c.requires.0 before-first) (λ c κs. omega arith) (λ c κs. omega arith) (search needs)
     -- returns
-    (λ c.
-    list-ends _ _ _ c.loop-turns.invariant c.kind_here-here.ensures no-item-words c.if-here-eq-END.true c.expect.ensures (omega arith))
+    (λ c. list-ends _ _ _ c.loop-turns.invariant c.kind_here-here.ensures no-item-words c.if-here-eq-END.true c.expect.ensures (omega arith))
     (λ c κs. omega arith) (λ c κs. omega arith) (λ c κs. omega arith) (search needs)
     -- returns-2
-    (λ c.
-    list-semicolon-ends _ _ _ c.loop-turns.invariant c.kind_here-here.ensures no-item-words c.if-here-eq-END.false c.expect-semicolon.ensures
+    (λ c. list-semicolon-ends _ _ _ c.loop-turns.invariant c.kind_here-here.ensures no-item-words c.if-here-eq-END.false c.expect-semicolon.ensures
     c.kind_here-kind.ensures c.if-kind-eq-END.true c.expect-then-kind-eq-END.ensures (omega arith))
     (λ c κs. pair (ready-leaves c.expect-semicolon.ensures.0 refl refl (omega arith)) (omega arith)) (search needs)
     (λ c. omega arith)
     -- loop-again
-    (λ c.
-    list-goes-on _ _ _ c.loop-turns.invariant c.kind_here-here.ensures c.if-here-eq-END.false c.expect-semicolon.ensures
+    (λ c. list-goes-on _ _ _ c.loop-turns.invariant c.kind_here-here.ensures c.if-here-eq-END.false c.expect-semicolon.ensures
     c.kind_here-kind.ensures c.if-kind-eq-END.false (takes_none c.one_item-a.ensures.0) c.one_item-a.auto.s
     c.one_item-a.ensures.1 (omega arith))
     (λ c κs. omega arith) (search needs) (λ c. list-spents _ _ _ c.loop-turns.invariant c.refuse.ensures (omega arith)))

@@ -9,6 +9,5 @@ parameters_spec = tie.close (tie.spec (search needs) (search needs) (search need
   λ src l. no-parameters src (c.kind_here-kind.ensures src l) c.if-kind-eq-CLOSE.true (c.expect.ensures.1 src l),
 )) (search needs) (search needs) (search needs) (search needs)
     -- returns-2
-    (λ c.
-    leaves ((λ src l. some-parameters src (c.kind_here-kind.ensures src l) l.count c.if-kind-eq-CLOSE.false) from c.a_name-first.ensures with
+    (λ c. leaves ((λ src l. some-parameters src (c.kind_here-kind.ensures src l) l.count c.if-kind-eq-CLOSE.false) from c.a_name-first.ensures with
     c.further_names-last.ensures with c.expect-2.ensures) refl))

@@ -9,21 +9,17 @@ use Rattle.tree.proofs.Wholes.{leaves, ◌from◌, ◌with◌, ◌adding◌, ◌
 pub default_label_spec : {M : Type 1} → Rattle.tree.proofs.parts.default_label.Statement.statement M
 default_label_spec = tie.close (tie.spec (search needs) (search needs) (search needs) (search needs) (search needs)
     -- expect-requires-2
-    (λ c κs.
-    pair (ready-takes c.begin_item-begun.ensures.0 c.begin_item-begun.auto.s
+    (λ c κs. pair (ready-takes c.begin_item-begun.ensures.0 c.begin_item-begun.auto.s
     (ready-leaves c.expect-word.ensures.0 refl refl c.requires)) (omega arith))
     -- node-requires
-    (λ c κs.
-    ready-leaves c.expect-colon.ensures.0 refl refl (ready-takes c.begin_item-begun.ensures.0 c.begin_item-begun.auto.s
+    (λ c κs. ready-leaves c.expect-colon.ensures.0 refl refl (ready-takes c.begin_item-begun.ensures.0 c.begin_item-begun.auto.s
     (ready-leaves c.expect-word.ensures.0 refl refl c.requires)))
     -- set-size-requires
-    (λ c κs.
-    pair (ready-takes c.node-a.ensures.0 c.node-a.auto.s (ready-leaves c.expect-colon.ensures.0 refl refl
+    (λ c κs. pair (ready-takes c.node-a.ensures.0 c.node-a.auto.s (ready-leaves c.expect-colon.ensures.0 refl refl
     (ready-takes c.begin_item-begun.ensures.0 c.begin_item-begun.auto.s
     (ready-leaves c.expect-word.ensures.0 refl refl c.requires)))) (item-low c.free_of-lo.ensures c.requires)) (search needs)
     -- returns
-    (λ c.
-    leaves ((λ src l a b d f g kind k q. label-default src _ k q
+    (λ c. leaves ((λ src l a b d f g kind k q. label-default src _ k q
     (default-read l _ _ c.free_of-lo.ensures (c.place_here-place.ensures src l) (low-past c.requires c.expect-word.ensures.0)
     (freed _ c.free_of-start.ensures c.begin_item-begun.auto.s) a b d f g)) from c.expect-word.ensures adding
     c.begin_item-begun.ensures with c.expect-colon.ensures adding c.node-a.ensures setting c.set_size.ensures) refl))

@@ -20,7 +20,6 @@ further_names_spec = tie.close (tie.spec invariant-loop decreases-loop (λ c. so
     (λ c. many-ends _ _ _ _ before_last (wordless no-name-words) refl c.loop-turns.invariant c.kind_here-kind.ensures
     (ne_eqb _ _ c.if-kind-ne-COMMA.true)) (λ c κs. omega arith) (λ c κs. omega arith) (search needs) (λ c. omega arith)
     -- loop-again
-    (λ c.
-    many-turns _ _ _ _ before-next c.loop-turns.invariant c.kind_here-kind.ensures (eq-eqb _ _ c.if-kind-ne-COMMA.false)
+    (λ c. many-turns _ _ _ _ before-next c.loop-turns.invariant c.kind_here-kind.ensures (eq-eqb _ _ c.if-kind-ne-COMMA.false)
     (at-any (further-name-reads c.expect-comma.ensures c.a_name-a.ensures)) c.a_name-a.auto.s (omega arith))
     (search needs) (λ c. many-spent _ _ _ _ before_last (wordless no-name-words) refl c.loop-turns.invariant (omega arith)))

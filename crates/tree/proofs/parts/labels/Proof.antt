@@ -21,11 +21,9 @@ pub labels_spec : {M : Type 1} → Rattle.tree.proofs.parts.labels.Statement.sta
 labels_spec = tie.close (tie.spec invariant-loop decreases-loop (λ _ _. tt) (λ c. so-begins c.requires before-first) (λ c κs. omega arith) (λ _ _. tt)
     (λ c κs. omega arith) (search needs) (λ c. omega arith)
     -- loop-again
-    (λ c.
-    many-turns _ _ _ _ before-next c.loop-turns.invariant c.kind_here-kind.ensures (sym c.is_label.ensures ∙ c.if-is_label.true)
+    (λ c. many-turns _ _ _ _ before-next c.loop-turns.invariant c.kind_here-kind.ensures (sym c.is_label.ensures ∙ c.if-is_label.true)
     c.label-a.ensures c.label-a.auto.s (omega arith)) (search needs)
     -- returns
-    (λ c.
-    many-ends _ _ _ _ before_last (wordless no-label-words) c.minus-turns.ensures c.loop-turns.invariant
+    (λ c. many-ends _ _ _ _ before_last (wordless no-label-words) c.minus-turns.ensures c.loop-turns.invariant
     c.kind_here-kind.ensures (sym c.is_label.ensures ∙ c.if-is_label.false)) (search needs)
     (λ c. many-spent _ _ _ _ before_last (wordless no-label-words) c.minus-turns.ensures c.loop-turns.invariant (omega arith)))

@@ -5,8 +5,7 @@ use Rattle.tree.proofs.Rooms.{left, room-left, ◌less◌}
 use Rattle.tree.proofs.parts.leaf.Tie as tie
 
 returns : tie.Need-returns
-returns c =
-    pair (room-left (left c.expect-a.ensures.0 less c.node.ensures.0) refl)
+returns c = pair (room-left (left c.expect-a.ensures.0 less c.node.ensures.0) refl)
     (λ src l. leaf-read l _ (c.place_here-place.ensures src l) c.requires.1 (c.expect-a.ensures.1 src l)
     c.free_of-lo.ensures c.node.ensures.1)
 

@@ -5,8 +5,7 @@ use Rattle.tree.proofs.Steps.{pair}
 use Rattle.tree.proofs.parts.optional_by.Tie as tie
 
 returns : tie.Need-returns-then-kind-eq-BY
-returns c =
-    pair (room-left (left c.expect-word.ensures.0 plus c.constant.ensures.0) refl)
+returns c = pair (room-left (left c.expect-word.ensures.0 plus c.constant.ensures.0) refl)
     (λ src l. by_read src _ (c.kind_here-kind.ensures src l) c.if-kind-eq-BY.true (c.expect-word.ensures.1 src l)
     (c.constant.ensures.1 src l))
 

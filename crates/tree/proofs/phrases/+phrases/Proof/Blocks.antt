@@ -40,21 +40,17 @@ step_ok t = cycle.Lts-step.spec (step-cs t).claims (at step-rank t) step-rank.po
     (λ c κs. let e = c.optional_by-by in
     pair (ready-leaves e.ensures.1.0 e.auto.s refl e.ensures.0) (omega arith))
     -- cmd-requires
-    (λ c κs.
-    pair (omega (arith, c.requires.0)) (past-symbol refl c.expect-then.ensures))
+    (λ c κs. pair (omega (arith, c.requires.0)) (past-symbol refl c.expect-then.ensures))
     -- cast-node
-    (λ c.
-    let small = size_small _ c.minus-size.ensures.1 c.free_of.ensures.1
+    (λ c. let small = size_small _ c.minus-size.ensures.1 c.free_of.ensures.1
     c.expect-then.ensures.0.0 in omega arith)
     (λ c κs. ready-leaves c.cmd-a.ensures.1.0 c.cmd-a.auto.s refl
     (past-symbol refl c.expect-then.ensures))
     -- same-length
-    (λ c.
-    c.node.auto.s ∙ c.cmd-a.auto.s ∙ c.optional_by-by.auto.s ∙ c.expr-limit.auto.s ∙ c.expr-first.auto.s
+    (λ c. c.node.auto.s ∙ c.cmd-a.auto.s ∙ c.optional_by-by.auto.s ∙ c.expr-limit.auto.s ∙ c.expr-first.auto.s
     ∙ c.a_name-name.auto.s)
     -- returns
-    (λ c.
-    let same = c.optional_by-by.auto.s ∙ c.expr-limit.auto.s ∙ c.expr-first.auto.s ∙ c.a_name-name.auto.s in
+    (λ c. let same = c.optional_by-by.auto.s ∙ c.expr-limit.auto.s ∙ c.expr-first.auto.s ∙ c.a_name-name.auto.s in
     leaves ((λ src l a b e d f g h i j. for-read l _ _ c.free_of-lo.ensures.1 a b e d f g h i j
     (for-size _ _ c.minus-size.ensures.1 c.free_of.ensures.1 c.free_of-2.ensures.1 same)) from c.expect-word.ensures.1
     with c.a_name-name.ensures.1 with c.expect-equal.ensures.1 with c.expr-first.ensures.1 with c.expect-to.ensures.1 with
@@ -73,14 +69,11 @@ pick-ok t = cycle.Lts-pick.spec (pick-cs t).claims (at pick-rank t) pick-rank.po
     -- list-requires
     (λ c κs. pair (omega (arith, c.requires.0)) (ready-takes c.item-first.ensures.1.0 c.item-first.auto.s c.item-first.ensures.0.1))
     -- cast-node
-    (λ c.
-    let small = size_small _ c.minus-size.ensures.1 c.free_of.ensures.1 c.expect-into.ensures.0.0 in omega arith)
+    (λ c. let small = size_small _ c.minus-size.ensures.1 c.free_of.ensures.1 c.expect-into.ensures.0.0 in omega arith)
     (λ c κs. let list = c.list-a in ready-leaves list.ensures.1.0 list.auto.s refl list.ensures.0.1)
-    (λ c.
-    c.node.auto.s ∙ c.list-a.auto.s ∙ c.item-first.auto.s ∙ c.expr-value.auto.s)
+    (λ c. c.node.auto.s ∙ c.list-a.auto.s ∙ c.item-first.auto.s ∙ c.expr-value.auto.s)
     -- returns
-    (λ c.
-    leaves ((λ src l a b e d f g. switchon-read l _ _ c.free_of-lo.ensures.1 a b e d f g
+    (λ c. leaves ((λ src l a b e d f g. switchon-read l _ _ c.free_of-lo.ensures.1 a b e d f g
     (measured _ _ c.minus-size.ensures.1 c.free_of.ensures.1 c.expr-value.auto.s)) from c.expect-word.ensures.1 with
     c.expr-value.ensures.1 with c.expect-into.ensures.1 with c.expect-begin.ensures.1 taking c.item-first.ensures.1 with
     c.list-a.ensures.1 adding c.node.ensures.1) refl)
@@ -93,13 +86,11 @@ item_ok t = cycle.Lts-item.spec (item-cs t).claims (at item-rank t) item-rank.po
     (λ c κs. let begin-item = c.begin_item-begun in
     pair (omega arith) (ready-takes begin-item.ensures.1.0 begin-item.auto.s begin-item.ensures.0))
     -- set-size-requires
-    (λ c κs.
-    pair (past-part refl c.cmd-a.ensures c.cmd-a.auto.s)
+    (λ c κs. pair (past-part refl c.cmd-a.ensures c.cmd-a.auto.s)
     (item-low c.free_of-lo.ensures.1 (ready-part c.begin_item-begun.ensures.0 refl)))
     (λ c. omega arith)
     -- returns
-    (λ c.
-    takes ((λ src l. listed-read src _ _ c.free_of-lo.ensures.1 (low c.begin_item-begun.ensures.0)) writing
+    (λ c. takes ((λ src l. listed-read src _ _ c.free_of-lo.ensures.1 (low c.begin_item-begun.ensures.0)) writing
     c.begin_item-begun.ensures.1 with c.cmd-a.ensures.1 setting c.set_size.ensures.1) refl)
 
 abbrev pub list-cs : ℕ → Calls cycle.Lts-list.Claims
@@ -118,8 +109,7 @@ list-ok t =
     (λ c κs. ready-leaves c.loop-turns.invariant.room c.loop-turns.invariant.same refl c.requires.1)
     (λ c κs. pair c.kind_here-here.ensures.0 (omega arith)) (λ c. omega arith)
     -- returns
-    (λ c.
-    list-ends _ _ _ c.loop-turns.invariant c.kind_here-here.ensures.1 no-command-words c.if-here-eq-END.true c.expect.ensures.1 (omega arith))
+    (λ c. list-ends _ _ _ c.loop-turns.invariant c.kind_here-here.ensures.1 no-command-words c.if-here-eq-END.true c.expect.ensures.1 (omega arith))
     (λ c κs. pair c.kind_here-here.ensures.0 (omega arith)) (λ c κs. past-symbol refl c.expect-semicolon.ensures)
     (λ c κs. pair c.kind_here-kind.ensures.0 (omega arith)) (λ c. omega arith)
     -- returns-2
@@ -128,8 +118,7 @@ list-ok t =
     c.kind_here-kind.ensures.1 c.if-kind-eq-END.true c.expect-then-kind-eq-END.ensures.1 (omega arith))
     (λ c κs. pair (omega arith) (past-symbol refl c.expect-semicolon.ensures)) (λ c. omega arith) (λ c. omega arith)
     -- loop-again
-    (λ c.
-    list-goes-on _ _ _ c.loop-turns.invariant c.kind_here-here.ensures.1 c.if-here-eq-END.false c.expect-semicolon.ensures.1
+    (λ c. list-goes-on _ _ _ c.loop-turns.invariant c.kind_here-here.ensures.1 c.if-here-eq-END.false c.expect-semicolon.ensures.1
     c.kind_here-kind.ensures.1 c.if-kind-eq-END.false (takes-more c.item-a.ensures.1.0 refl) c.item-a.auto.s
     c.item-a.ensures.1.1 (omega arith))
     (λ c κs. ready-leaves c.loop-turns.invariant.room c.loop-turns.invariant.same refl c.requires.1)
@@ -149,8 +138,7 @@ till-ok t =
     (λ c. semicolon-commands _ c.kind_here-kind.ensures.1 c.in-54.is
     c.expect-semicolon.ensures.1 c.expect-in-54.ensures.1) (λ c. omega arith)
     -- returns-3
-    (λ c.
-    some-commands _ c.kind_here-kind.ensures.1 c.in_default.in_default-own.rest c.item-first.ensures.1
+    (λ c. some-commands _ c.kind_here-kind.ensures.1 c.in_default.in_default-own.rest c.item-first.ensures.1
     c.list.ensures.1)
 
 abbrev pub block-cs : ℕ → Calls cycle.Lts-block.Claims
@@ -164,14 +152,12 @@ block-ok t = cycle.Lts-block.spec (block-cs t).claims (at block-rank t) block-ra
     c.lets-locals.auto.s refl
     (past-symbol refl c.expect-begin.ensures)))
     -- cast-node
-    (λ c.
-    let small = size_small _ c.minus-size.ensures.1 c.free_of.ensures.1 (ready-part c.till-a.ensures.0.1 refl) in omega arith)
+    (λ c. let small = size_small _ c.minus-size.ensures.1 c.free_of.ensures.1 (ready-part c.till-a.ensures.0.1 refl) in omega arith)
     (λ c κs. let till = c.till-a in
     ready-leaves till.ensures.1.0 till.auto.s refl (ready-part till.ensures.0.1 refl))
     (λ c. omega arith)
     -- returns
-    (λ c.
-    leaves ((λ src l a b e. block_read l _ _ c.free_of-lo.ensures.1 a b e
+    (λ c. leaves ((λ src l a b e. block_read l _ _ c.free_of-lo.ensures.1 a b e
     (measured _ _ c.minus-size.ensures.1 c.free_of.ensures.1 c.lets-locals.auto.s)) from c.expect-begin.ensures.1 with
     c.lets-locals.ensures.1 with c.till-a.ensures.1 adding c.node.ensures.1) refl)
 
@@ -196,8 +182,7 @@ lets-ok t =
     c.loop-turns.invariant.same refl c.requires.1))
     (λ c. omega arith) (λ c. omega arith)
     -- loop-again
-    (λ c.
-    many-turns _ _ _ _ before-next c.loop-turns.invariant c.kind_here-kind.ensures.1 (eq-eqb _ _ c.if-kind-ne-LET.false)
+    (λ c. many-turns _ _ _ _ before-next c.loop-turns.invariant c.kind_here-kind.ensures.1 (eq-eqb _ _ c.if-kind-ne-LET.false)
     (at-any c.local-a.ensures.1) c.local-a.auto.s (omega arith))
     (λ c. omega arith) (λ c. many-spent _ _ _ _ before_last (wordless no-local-words) refl c.loop-turns.invariant (omega arith))
 
@@ -220,16 +205,13 @@ local-ok t = cycle.Lts-local.spec (local-cs t).claims (at local-rank t) local-ra
     (λ c κs. let init = c.init-value in
     pair (ready-takes init.ensures.1.0 init.auto.s init.ensures.0.1) (omega arith))
     -- set-size-requires
-    (λ c κs.
-    pair (ready-leaves c.optional-a.ensures.1.0 refl refl c.optional-a.ensures.0.0)
+    (λ c κs. pair (ready-leaves c.optional-a.ensures.1.0 refl refl c.optional-a.ensures.0.0)
     (item-low c.free_of-lo.ensures.1 c.expect-word.ensures.0.0))
     -- same-length
-    (λ c.
-    c.set_size.auto.s ∙ c.init-value.auto.s ∙ c.further_names-names.auto.s ∙ c.a_name-first.auto.s
+    (λ c. c.set_size.auto.s ∙ c.init-value.auto.s ∙ c.further_names-names.auto.s ∙ c.a_name-first.auto.s
     ∙ c.begin_item-begun.auto.s)
     -- returns
-    (λ c.
-    pair (room-left (left c.expect-word.ensures.1.0 less c.begin_item-begun.ensures.1.0
+    (λ c. pair (room-left (left c.expect-word.ensures.1.0 less c.begin_item-begun.ensures.1.0
     plus c.a_name-first.ensures.1.0 plus c.further_names-names.ensures.1.0 plus c.expect-equal.ensures.1.0 less
     c.init-value.ensures.1.0 plus c.optional-a.ensures.1.0 plus c.set_size.ensures.1.0) refl) (λ src l. (let l₁ =
     lies-still l c.begin_item-begun.ensures.1.0.kept in let l₂ = lies-still l₁ c.a_name-first.ensures.1.0.kept in let l₃ = lies-still
@@ -253,8 +235,7 @@ pub init-ok : {M : Type 1} (t : ℕ) → cycle.Lts-init.Closed (init-cs t).claim
 init-ok t = cycle.Lts-init.spec (init-cs t).claims (at init-rank t) init-rank.post (λ c κs. omega arith) (λ c κs. tt) (λ c κs. omega arith)
     (λ c. omega arith)
     -- returns
-    (λ c.
-    let v = vector-is c.kind_here-kind.result c.args.further (sym
+    (λ c. let v = vector-is c.kind_here-kind.result c.args.further (sym
     c.is_vector.ensures.1 ∙ c.if-is_vector.true) in pair (takes_none c.vector.ensures.1.0) (λ src l. pair
     (c.vector.ensures.1.1 src l).0 (λ name names q e. given-vector src _ (c.kind_here-kind.ensures.1 src l) name names (omega (
       arith,
@@ -268,15 +249,12 @@ init-ok t = cycle.Lts-init.spec (init-cs t).claims (at init-rank t) init-rank.po
     (λ c κs. tt) (λ c κs. tt) (λ c κs. omega arith) (λ c κs. let arg = c.arg-first in
     pair (omega arith) (ready-takes arg.ensures.1.0 arg.auto.s (ready-part arg.ensures.0.1 refl)))
     -- cast-node
-    (λ c.
-    let small = size_small _ c.minus-size.ensures.1 c.free_of.ensures.1 (ready-part c.arg-first.ensures.0.1 refl) in omega arith)
+    (λ c. let small = size_small _ c.minus-size.ensures.1 c.free_of.ensures.1 (ready-part c.arg-first.ensures.0.1 refl) in omega arith)
     -- node-requires
-    (λ c κs.
-    ready-leaves c.rest-last.ensures.1.0 c.rest-last.auto.s refl (ready-takes c.arg-first.ensures.1.0 c.arg-first.auto.s c.requires.1))
+    (λ c κs. ready-leaves c.rest-last.ensures.1.0 c.rest-last.auto.s refl (ready-takes c.arg-first.ensures.1.0 c.arg-first.auto.s c.requires.1))
     (λ c. omega arith)
     -- returns-2
-    (λ c.
-    pair (room-taken (taken c.arg-first.ensures.1.0 plus c.rest-last.ensures.1.0 less c.node.ensures.1.0) refl)
+    (λ c. pair (room-taken (taken c.arg-first.ensures.1.0 plus c.rest-last.ensures.1.0 less c.node.ensures.1.0) refl)
     (λ src l. let l₁ = lies-still l c.arg-first.ensures.1.0.kept in
     pair (goes_on_lem (c.arg-first.ensures.1.1 src l) then goes_on_lem (c.rest-last.ensures.1.1 src l₁) then adds_on c.node.ensures.1.1)
     (λ name names q e. given-values src _ (c.kind_here-kind.ensures.1 src l) name names

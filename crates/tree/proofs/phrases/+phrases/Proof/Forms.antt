@@ -34,13 +34,11 @@ pub cmd-ok : {M : Type 1} (t : ℕ) → cycle.Lts-cmd.Closed (cmd-cs t).claims (
 cmd-ok t =
     cycle.Lts-cmd.spec (cmd-cs t).claims (at cmd-rank t) cmd-rank.post (λ c κs. omega arith) (λ c κs. tt) (λ c κs. omega arith) (λ c. omega arith)
     -- returns
-    (λ c.
-    pair c.cases.ensures.1.0 (λ src l. c.cases.ensures.1.1 src l (c.kind_here-kind.ensures.1 src l)
+    (λ c. pair c.cases.ensures.1.0 (λ src l. c.cases.ensures.1.1 src l (c.kind_here-kind.ensures.1 src l)
     (sym c.is_label.ensures.1 ∙ c.if-is_label.true)))
     (λ c κs. omega arith) (λ c. omega arith)
     -- returns-2
-    (λ c.
-    command-plain _ c.kind_here-kind.ensures.1 c.is_label.ensures.1 c.if-is_label.false c.body.ensures.1)
+    (λ c. command-plain _ c.kind_here-kind.ensures.1 c.is_label.ensures.1 c.if-is_label.false c.body.ensures.1)
 
 abbrev pub cases-cs : ℕ → Calls cycle.Lts-cases.Claims
 cases-cs t = calls-6 free-of label labels minus (below body-rank t) node
@@ -51,16 +49,13 @@ cases-ok t = cycle.Lts-cases.spec (cases-cs t).claims (at cases-rank t) cases-ra
     (λ c κs. let e = c.labels-last in
     pair (omega arith) (ready-leaves e.ensures.1.0 e.auto.s refl e.ensures.0))
     -- cast-node
-    (λ c.
-    let small = size_small _ c.minus-size.ensures.1 c.free_of.ensures.1 c.body-a.ensures.0.1 in omega arith)
+    (λ c. let small = size_small _ c.minus-size.ensures.1 c.free_of.ensures.1 c.body-a.ensures.0.1 in omega arith)
     -- node-requires
-    (λ c κs.
-    ready-leaves c.body-a.ensures.1.0 c.body-a.auto.s refl (ready-leaves c.labels-last.ensures.1.0 c.labels-last.auto.s refl
+    (λ c κs. ready-leaves c.body-a.ensures.1.0 c.body-a.auto.s refl (ready-leaves c.labels-last.ensures.1.0 c.labels-last.auto.s refl
     (ready-leaves c.label-first.ensures.1.0 c.label-first.auto.s refl c.label-first.ensures.0)))
     (λ c. omega arith)
     -- returns
-    (λ c.
-    pair
+    (λ c. pair
     (room-left (left c.label-first.ensures.1.0 plus c.labels-last.ensures.1.0 plus c.body-a.ensures.1.0 less
     c.node.ensures.1.0) refl) (λ src l k q. (let l₁ = lies-still l c.label-first.ensures.1.0.kept in
     let l₂ = lies-still l₁ c.labels-last.ensures.1.0.kept in
@@ -75,22 +70,18 @@ pub body_ok : {M : Type 1} (t : ℕ) → cycle.Lts-body.Closed (body-cs t).claim
 body_ok t = cycle.Lts-body.spec (body-cs t).claims (at body-rank t) body-rank.post (λ c κs. omega arith) (λ c κs. tt) (λ c κs. omega arith)
     (λ c. omega arith)
     -- returns
-    (λ c.
-    body-shut _ _ c.kind_here-kind.ensures.1 c.begins_command.ensures.1 c.if-begins_command.true c.if-levels-eq0.true
+    (λ c. body-shut _ _ c.kind_here-kind.ensures.1 c.begins_command.ensures.1 c.if-begins_command.true c.if-levels-eq0.true
     c.refuse.ensures.1)
     (λ c. omega arith) (λ c κs. omega arith) (λ c. omega arith)
     -- returns-2
-    (λ c.
-    body_open _ _ c.kind_here-kind.ensures.1 c.begins_command.ensures.1 c.if-begins_command.true c.if-levels-eq0.false
+    (λ c. body_open _ _ c.kind_here-kind.ensures.1 c.begins_command.ensures.1 c.if-begins_command.true c.if-levels-eq0.false
     c.redo.ensures.1)
     (λ c. omega arith)
     -- returns-3
-    (λ c.
-    body-empty _ _ c.kind_here-kind.ensures.1 c.begins_command.ensures.1 c.if-begins_command.false c.requires.1 c.if-labelled.true)
+    (λ c. body-empty _ _ c.kind_here-kind.ensures.1 c.begins_command.ensures.1 c.if-begins_command.false c.requires.1 c.if-labelled.true)
     (λ c κs. omega arith) (λ c. omega arith)
     -- returns-4
-    (λ c.
-    body-none _ _ c.kind_here-kind.ensures.1 c.begins_command.ensures.1 c.if-begins_command.false c.if-labelled.false
+    (λ c. body-none _ _ c.kind_here-kind.ensures.1 c.begins_command.ensures.1 c.if-begins_command.false c.if-labelled.false
     c.refuse-2.ensures.1)
 
 abbrev pub redo-cs : ℕ → Calls cycle.Lts-redo.Claims
@@ -100,31 +91,25 @@ pub redo-ok : {M : Type 1} (t : ℕ) → cycle.Lts-redo.Closed (redo-cs t).claim
 redo-ok t = cycle.Lts-redo.spec (redo-cs t).claims (at redo-rank t) redo-rank.post (λ c κs. tt) (λ c κs. omega arith)
     (λ c κs. let e = c.plain-body in past-part refl e.ensures e.auto.s) (λ c κs. tt) (λ c κs. tt) (λ c κs. tt)
     -- form-requires
-    (λ c κs.
-    pair (omega (arith, c.requires.0)) (pair c.kind_here-kind.ensures.0
+    (λ c κs. pair (omega (arith, c.requires.0)) (pair c.kind_here-kind.ensures.0
     (repeat-positive _ c.is_repeat.ensures.1 c.if-is_repeat.true)))
     -- forms-requires
-    (λ c κs.
-    pair (omega (arith, c.requires.0)) (past-expression refl c.form-first.ensures c.form-first.auto.s))
+    (λ c κs. pair (omega (arith, c.requires.0)) (past-expression refl c.form-first.ensures c.form-first.auto.s))
     -- cast-node
-    (λ c.
-    let small = size_small _ c.minus-size.ensures.1 c.free_of.ensures.1 c.form-first.ensures.0.1.0 in omega arith)
+    (λ c. let small = size_small _ c.minus-size.ensures.1 c.free_of.ensures.1 c.form-first.ensures.0.1.0 in omega arith)
     -- node-requires
-    (λ c κs.
-    ready-leaves c.forms-last.ensures.1.0 c.forms-last.auto.s refl (ready-leaves c.form-first.ensures.1.0 c.form-first.auto.s refl
+    (λ c κs. ready-leaves c.forms-last.ensures.1.0 c.forms-last.auto.s refl (ready-leaves c.form-first.ensures.1.0 c.form-first.auto.s refl
     (ready-leaves c.plain-body.ensures.1.0 c.plain-body.auto.s refl c.plain-body.ensures.0.1)))
     (λ c. omega arith)
     -- returns
-    (λ c.
-    leaves ((λ src l d. let l₁ = lies-still l c.plain-body.ensures.1.0.kept in
+    (λ c. leaves ((λ src l d. let l₁ = lies-still l c.plain-body.ensures.1.0.kept in
     repeated-more l₁ _ _ (c.kind_here-kind.ensures.1 src l₁) d (sym c.is_repeat.ensures.1 ∙ c.if-is_repeat.true)
     c.free_of-lo.ensures.1 (measured _ _ c.minus-size.ensures.1 c.free_of.ensures.1 c.plain-body.auto.s)) from
     c.plain-body.ensures.1 with of-kind c.kind_here-kind.ensures.1
     c.form-first.ensures.1 with c.forms-last.ensures.1 adding c.node.ensures.1) refl)
     (λ c. omega arith)
     -- returns-2
-    (λ c.
-    leaves ((λ src l d. let l₁ = lies-still l c.plain-body.ensures.1.0.kept in
+    (λ c. leaves ((λ src l d. let l₁ = lies-still l c.plain-body.ensures.1.0.kept in
     repeated-one l₁ 0 _ (c.kind_here-kind.ensures.1 src l₁) d (sym c.is_repeat.ensures.1 ∙ c.if-is_repeat.false)) from
     c.plain-body.ensures.1) refl)
 
@@ -145,18 +130,15 @@ forms-ok t = cycle.Lts-forms.spec (forms-cs t).claims (at forms-rank t) forms-ra
     (λ c κs. ready-leaves c.loop-turns.invariant.room c.loop-turns.invariant.same refl
     c.requires.1) (λ c κs. tt)
     -- form-requires
-    (λ c κs.
-    pair (omega arith) (pair (ready-leaves c.loop-turns.invariant.room c.loop-turns.invariant.same refl c.requires.1)
+    (λ c κs. pair (omega arith) (pair (ready-leaves c.loop-turns.invariant.room c.loop-turns.invariant.same refl c.requires.1)
     (repeat-positive _ c.is_repeat.ensures.1 c.if-is_repeat.true)))
     (λ c. omega arith) (λ c. omega arith)
     -- loop-again
-    (λ c.
-    many-turns _ _ _ _ before-next c.loop-turns.invariant c.kind_here-kind.ensures.1 (sym c.is_repeat.ensures.1 ∙ c.if-is_repeat.true)
+    (λ c. many-turns _ _ _ _ before-next c.loop-turns.invariant c.kind_here-kind.ensures.1 (sym c.is_repeat.ensures.1 ∙ c.if-is_repeat.true)
     c.form-a.ensures.1 c.form-a.auto.s (omega arith))
     (λ c. omega arith)
     -- returns
-    (λ c.
-    many-ends _ _ _ _ before_last (wordless no-repeat-words) c.minus-turns.ensures.1 c.loop-turns.invariant
+    (λ c. many-ends _ _ _ _ before_last (wordless no-repeat-words) c.minus-turns.ensures.1 c.loop-turns.invariant
     c.kind_here-kind.ensures.1 (sym c.is_repeat.ensures.1 ∙ c.if-is_repeat.false))
     (λ c. omega arith)
     (λ c. many-spent _ _ _ _ before_last (wordless no-repeat-words) c.minus-turns.ensures.1 c.loop-turns.invariant (omega arith))
@@ -174,13 +156,11 @@ form-ok t = cycle.Lts-form.spec (form-cs t).claims (at form-rank t) form-rank.po
     (λ c κs. let begin-item = c.begin_item-begun in
     pair (omega arith) (pair (ready-takes begin-item.ensures.1.0 begin-item.auto.s begin-item.ensures.0) (omega arith)))
     -- set-size-requires
-    (λ c κs.
-    pair (past-expression refl c.expr-a.ensures c.expr-a.auto.s)
+    (λ c κs. pair (past-expression refl c.expr-a.ensures c.expr-a.auto.s)
     (item-low c.free_of-lo.ensures.1 c.expect-word.ensures.0.0))
     (λ c. omega arith)
     -- returns-2
-    (λ c.
-    leaves ((λ src l w x y z k. repeat-on-read src _ _ k c.free_of-lo.ensures.1 c.if-kind-eq-REPEAT.false
+    (λ c. leaves ((λ src l w x y z k. repeat-on-read src _ _ k c.free_of-lo.ensures.1 c.if-kind-eq-REPEAT.false
     (low-past c.expect-word.ensures.0.0 c.expect-word.ensures.1.0) w x y z) from c.expect-word.ensures.1 adding
     c.begin_item-begun.ensures.1 with c.expr-a.ensures.1 setting c.set_size.ensures.1) refl)
 
@@ -192,20 +172,16 @@ plain-cs t =
 pub plain_ok : {M : Type 1} (t : ℕ) → cycle.Lts-plain.Closed (plain-cs t).claims (at plain-rank t) plain-rank.post M
 plain_ok t = cycle.Lts-plain.spec (plain-cs t).claims (at plain-rank t) plain-rank.post (λ c κs. omega arith) (λ c κs. tt)
     -- when-requires
-    (λ c κs.
-    pair (omega arith) (pair c.requires.1 (guard-positive _ c.is_guard.ensures.1 c.if-is_guard.true)))
+    (λ c κs. pair (omega arith) (pair c.requires.1 (guard-positive _ c.is_guard.ensures.1 c.if-is_guard.true)))
     (λ c. omega arith)
     -- returns
-    (λ c.
-    unlabelled-guarded _ c.kind_here-kind.ensures.1 c.is_guard.ensures.1 c.if-is_guard.true c.when.ensures.1)
+    (λ c. unlabelled-guarded _ c.kind_here-kind.ensures.1 c.is_guard.ensures.1 c.if-is_guard.true c.when.ensures.1)
     (λ c κs. tt)
     -- leave-requires
-    (λ c κs.
-    pair c.requires.1 (leave-positive _ c.is_leave.ensures.1 c.if-is_leave.true))
+    (λ c κs. pair c.requires.1 (leave-positive _ c.is_leave.ensures.1 c.if-is_leave.true))
     (λ c. omega arith)
     -- returns-2
-    (λ c.
-    unlabelled-leave _ c.kind_here-kind.ensures.1 c.is_guard.ensures.1 c.if-is_guard.false c.is_leave.ensures.1
+    (λ c. unlabelled-leave _ c.kind_here-kind.ensures.1 c.is_guard.ensures.1 c.if-is_guard.false c.is_leave.ensures.1
     c.if-is_leave.true c.leave.ensures.1)
     (λ c κs. omega arith) (λ c κs. omega arith) (λ c κs. omega arith) (λ c κs. omega arith) (λ c κs. omega arith) (λ c κs. omega arith)
     (λ c. omega arith)
@@ -220,8 +196,7 @@ plain_ok t = cycle.Lts-plain.spec (plain-cs t).claims (at plain-rank t) plain-ra
     (λ c. unlabelled-block _ c.kind_here-kind.ensures.1
     c.in-57.is c.block.ensures.1) (λ c. omega arith)
     -- returns-8
-    (λ c.
-    unlabelled-other _ c.kind_here-kind.ensures.1 c.is_guard.ensures.1 c.if-is_guard.false c.is_leave.ensures.1
+    (λ c. unlabelled-other _ c.kind_here-kind.ensures.1 c.is_guard.ensures.1 c.if-is_guard.false c.is_leave.ensures.1
     c.if-is_leave.false c.in_default.in_default-own.rest c.bare.ensures.1)
 
 abbrev pub test-cs : ℕ → Calls cycle.Lts-test.Claims
@@ -237,8 +212,7 @@ test-ok t = cycle.Lts-test.spec (test-cs t).claims (at test-rank t) test-rank.po
     (λ c κs. ready-leaves c.cmd-a.ensures.1.0 c.cmd-a.auto.s refl
     (past-symbol refl c.expect-or.ensures)) (λ c. omega arith)
     -- returns
-    (λ c.
-    leaves ((λ src l. test_read l _ _ c.free_of-lo.ensures.1) from c.expect-word.ensures.1 with c.expr-condition.ensures.1 with
+    (λ c. leaves ((λ src l. test_read l _ _ c.free_of-lo.ensures.1) from c.expect-word.ensures.1 with c.expr-condition.ensures.1 with
     c.expect-then.ensures.1 with c.cmd-first.ensures.1 with c.expect-or.ensures.1 with c.cmd-a.ensures.1 adding
     c.node.ensures.1) refl)
 
@@ -253,8 +227,7 @@ when-ok t = cycle.Lts-when.spec (when-cs t).claims (at when-rank t) when-rank.po
     (λ c κs. ready-leaves c.cmd-a.ensures.1.0 c.cmd-a.auto.s refl
     (past-symbol refl c.expect-then.ensures)) (λ c. omega arith)
     -- returns
-    (λ c.
-    leaves ((λ src l v w x y z k. guarded-read l _ _ c.free_of-lo.ensures.1 k v w x y z) from c.expect-word.ensures.1 with
+    (λ c. leaves ((λ src l v w x y z k. guarded-read l _ _ c.free_of-lo.ensures.1 k v w x y z) from c.expect-word.ensures.1 with
     c.expr-condition.ensures.1 with c.expect-then.ensures.1 with c.cmd-a.ensures.1 adding c.node.ensures.1) refl)
 
 abbrev pub give-cs : ℕ → Calls cycle.Lts-give.Claims
@@ -266,8 +239,7 @@ give-ok t = cycle.Lts-give.spec (give-cs t).claims (at give-rank t) give-rank.po
     (λ c κs. ready-leaves c.expr-a.ensures.1.0 c.expr-a.auto.s refl
     (past-symbol refl c.expect-word.ensures)) (λ c. omega arith)
     -- returns
-    (λ c.
-    leaves ((λ src l. resultis-read l _ _ c.free_of-lo.ensures.1 (c.place_here-place.ensures.1 src l)) from c.expect-word.ensures.1
+    (λ c. leaves ((λ src l. resultis-read l _ _ c.free_of-lo.ensures.1 (c.place_here-place.ensures.1 src l)) from c.expect-word.ensures.1
     with c.expr-a.ensures.1 adding c.node.ensures.1) refl)
 
 abbrev pub bare-cs : ℕ → Calls cycle.Lts-bare.Claims
@@ -278,22 +250,19 @@ bare-ok t = cycle.Lts-bare.spec (bare-cs t).claims (at bare-rank t) bare-rank.po
     (λ c κs. let e = c.expr-first in past-expression refl e.ensures e.auto.s) (λ c κs. tt)
     (λ c κs. pair (omega arith) c.kind_here-kind.ensures.0) (λ c. omega arith)
     -- returns
-    (λ c.
-    pair (room-left (left c.expr-first.ensures.1.0 plus c.set.ensures.1.0) refl)
+    (λ c. pair (room-left (left c.expr-first.ensures.1.0 plus c.set.ensures.1.0) refl)
     (λ src l. (let l₁ = lies-still l c.expr-first.ensures.1.0.kept in
     assignment-first src _ _ (c.kind_here-kind.ensures.1 src l₁) (c.expr-first.ensures.1.1 src l) c.free_of-lo.ensures.1
     (sym c.goes_on_assignment.ensures.1 ∙ c.if-goes_on_assignment.true) (c.set.ensures.1.1 src l₁).0
     (λ e q. (c.set.ensures.1.1 src l₁).1 e (ap (λ (z : ℕ). free_of z c.expr-first.result) c.expr-first.auto.s ∙ q)))))
     (λ c κs. c.kind_here-kind.ensures.0) (λ c. omega arith)
     -- returns-2
-    (λ c.
-    pair c.expr-first.ensures.1.0 (λ src l. (let l₁ = lies-still l c.expr-first.ensures.1.0.kept in
+    (λ c. pair c.expr-first.ensures.1.0 (λ src l. (let l₁ = lies-still l c.expr-first.ensures.1.0.kept in
     call-alone src 0 _ (c.kind_here-kind.ensures.1 src l₁) (c.expr-first.ensures.1.1 src l) c.is_call.ensures.1
     (sym c.goes_on_assignment.ensures.1 ∙ c.if-goes_on_assignment.false) c.if-is_call.true)))
     (λ c κs. c.is_call.ensures.0) (λ c. omega arith)
     -- returns-3
-    (λ c.
-    pair (room-left (left c.expr-first.ensures.1.0 plus c.refuse.ensures.1.0) refl)
+    (λ c. pair (room-left (left c.expr-first.ensures.1.0 plus c.refuse.ensures.1.0) refl)
     (λ src l. (let l₁ = lies-still l c.expr-first.ensures.1.0.kept in
     no_call src 0 _ (c.kind_here-kind.ensures.1 src l₁) (c.expr-first.ensures.1.1 src l) c.is_call.ensures.1
     (sym c.goes_on_assignment.ensures.1 ∙ c.if-goes_on_assignment.false) c.if-is_call.false c.refuse.ensures.1.1
@@ -308,23 +277,18 @@ set-ok t =
     (λ c κs. let e = c.also-left in pair (past-part refl e.ensures e.auto.s) (omega arith))
     (λ c κs. pair (omega arith) (past-symbol refl c.expect-word.ensures))
     -- rest-requires
-    (λ c κs.
-    pair (omega (arith, c.requires.0)) (ready-takes c.arg-first.ensures.1.0 c.arg-first.auto.s (ready-part c.arg-first.ensures.0.1 refl)))
+    (λ c κs. pair (omega (arith, c.requires.0)) (ready-takes c.arg-first.ensures.1.0 c.arg-first.auto.s (ready-part c.arg-first.ensures.0.1 refl)))
     -- cast-node
-    (λ c.
-    let small = size_small _ c.minus-size.ensures.1 c.free_of.ensures.1 c.also-left.ensures.0.1 in omega arith)
+    (λ c. let small = size_small _ c.minus-size.ensures.1 c.free_of.ensures.1 c.also-left.ensures.0.1 in omega arith)
     -- cast-node-2
-    (λ c.
-    let small = size_small _ c.minus-all.ensures.1 c.free_of-2.ensures.1
+    (λ c. let small = size_small _ c.minus-all.ensures.1 c.free_of-2.ensures.1
     c.expect-word.ensures.0.0 in omega arith)
     -- node-requires
-    (λ c κs.
-    ready-leaves c.rest-last.ensures.1.0 c.rest-last.auto.s refl
+    (λ c κs. ready-leaves c.rest-last.ensures.1.0 c.rest-last.auto.s refl
     (ready-takes c.arg-first.ensures.1.0 c.arg-first.auto.s (past-symbol refl c.expect-word.ensures)))
     (λ c. omega arith)
     -- returns
-    (λ c.
-    pair (room-left (left c.also-left.ensures.1.0 plus c.expect-word.ensures.1.0 less c.arg-first.ensures.1.0 plus
+    (λ c. pair (room-left (left c.also-left.ensures.1.0 plus c.expect-word.ensures.1.0 less c.arg-first.ensures.1.0 plus
     c.rest-last.ensures.1.0 less c.node.ensures.1.0) refl)
     (λ src l. let l₁ = lies-still l c.also-left.ensures.1.0.kept in let l₂ = lies-still l₁ c.arg-first.ensures.1.0.kept in
     pair (goes_on_lem (c.also-left.ensures.1.1 src l) then goes_on_lem (c.expect-word.ensures.1.1 src l₁) then goes_on_lem

@@ -41,8 +41,7 @@ whole-ok t = cycle.Lts-whole.spec (whole-cs t).claims (at whole-rank t) whole-ra
     -- tails-requires
     (λ c κs. pair (omega (arith, c.requires.0)) (past-part refl c.tail-first.ensures c.tail-first.auto.s))
     -- cast-node
-    (λ c.
-    let small = size_small _ c.minus-size.ensures.1 c.free_of.ensures.1
+    (λ c. let small = size_small _ c.minus-size.ensures.1 c.free_of.ensures.1
     c.place_of-place.ensures.0 in omega arith)
     (λ c κs. tt)
     -- node-requires
@@ -50,19 +49,16 @@ whole-ok t = cycle.Lts-whole.spec (whole-cs t).claims (at whole-rank t) whole-ra
     ready-leaves c.tails-last.ensures.1.0 c.tails-last.auto.s refl
     (ready-leaves tail.ensures.1.0 tail.auto.s refl tail.ensures.0.1))
     -- same-length
-    (λ c.
-    c.node.auto.s ∙ c.tails-last.auto.s ∙ c.tail-first.auto.s ∙ c.unit-primary.auto.s)
+    (λ c. c.node.auto.s ∙ c.tails-last.auto.s ∙ c.tail-first.auto.s ∙ c.unit-primary.auto.s)
     -- returns
-    (λ c.
-    leaves ((λ src l d. let l₁ = lies-still l c.unit-primary.ensures.1.0.kept in
+    (λ c. leaves ((λ src l d. let l₁ = lies-still l c.unit-primary.ensures.1.0.kept in
     suffixed-more l₁ _ _ (c.kind_here-kind.ensures.1 src l₁) d (sym c.is_suffix.ensures.1 ∙ c.if-is_suffix.true)
     c.free_of-lo.ensures.1 (measured _ _ c.minus-size.ensures.1 c.free_of.ensures.1 c.unit-primary.auto.s)
     c.place_of-place.ensures.1 c.suffixed_kind.ensures.1) from c.unit-primary.ensures.1 with of-kind
     c.kind_here-kind.ensures.1 c.tail-first.ensures.1 with c.tails-last.ensures.1 adding c.node.ensures.1) refl)
     (λ c. omega arith)
     -- returns-2
-    (λ c.
-    leaves ((λ src l d. let l₁ = lies-still l c.unit-primary.ensures.1.0.kept in
+    (λ c. leaves ((λ src l d. let l₁ = lies-still l c.unit-primary.ensures.1.0.kept in
     suffixed-one l₁ 0 _ (c.kind_here-kind.ensures.1 src l₁) d (sym c.is_suffix.ensures.1 ∙ c.if-is_suffix.false)) from
     c.unit-primary.ensures.1) refl)
 
@@ -90,8 +86,7 @@ nest-ok t = cycle.Lts-nest.spec (nest-cs t).claims (at nest-rank t) nest-rank.po
     (λ c κs. let e = c.expr-inner in pair (past-expression refl e.ensures e.auto.s) (omega arith))
     (λ c κs. past-symbol refl c.expect-a.ensures) (λ c. omega arith)
     -- returns-2
-    (λ c.
-    leaves
+    (λ c. leaves
     ((λ src l. bracketed-read l _ _ c.free_of-lo.ensures.1 (c.place_here-place.ensures.1 src l) c.if-levels-eq0.false) from
     c.expect-open.ensures.1 with c.expr-inner.ensures.1 with c.expect-a.ensures.1 adding c.node.ensures.1) refl)
 
@@ -105,8 +100,7 @@ valof-ok t = cycle.Lts-valof.spec (valof-cs t).claims (at valof-rank t) valof-ra
     (λ c κs. ready-leaves c.cmd-a.ensures.1.0 c.cmd-a.auto.s refl
     (past-symbol refl c.expect-word.ensures)) (λ c. omega arith)
     -- returns-2
-    (λ c.
-    leaves ((λ src l. valof-read l _ _ c.free_of-lo.ensures.1 (c.place_here-place.ensures.1 src l) c.if-levels-eq0.false) from
+    (λ c. leaves ((λ src l. valof-read l _ _ c.free_of-lo.ensures.1 (c.place_here-place.ensures.1 src l) c.if-levels-eq0.false) from
     c.expect-word.ensures.1 with c.cmd-a.ensures.1 adding c.node.ensures.1) refl)
 
 abbrev pub tail-cs : ℕ → Calls cycle.Lts-tail.Claims
@@ -137,13 +131,11 @@ tails-ok t = cycle.Lts-tails.spec (tails-cs t).claims (at tails-rank t) tails-ra
     c.loop-turns.invariant.same refl
     c.requires.1)) (λ c. omega arith) (λ c. omega arith)
     -- loop-again
-    (λ c.
-    many-turns _ _ _ _ suffix-next c.loop-turns.invariant c.kind_here-kind.ensures.1 (sym c.is_suffix.ensures.1 ∙ c.if-is_suffix.true)
+    (λ c. many-turns _ _ _ _ suffix-next c.loop-turns.invariant c.kind_here-kind.ensures.1 (sym c.is_suffix.ensures.1 ∙ c.if-is_suffix.true)
     c.tail-a.ensures.1 c.tail-a.auto.s (omega arith))
     (λ c. omega arith)
     -- returns
-    (λ c.
-    many-ends _ _ _ _ suffix_last no-suffix-ended c.minus-turns.ensures.1 c.loop-turns.invariant
+    (λ c. many-ends _ _ _ _ suffix_last no-suffix-ended c.minus-turns.ensures.1 c.loop-turns.invariant
     c.kind_here-kind.ensures.1 (sym c.is_suffix.ensures.1 ∙ c.if-is_suffix.false))
     (λ c. omega arith)
     (λ c. many-spent _ _ _ _ suffix_last no-suffix-ended c.minus-turns.ensures.1 c.loop-turns.invariant (omega arith))
@@ -157,8 +149,7 @@ call_ok t = cycle.Lts-call.spec (call-cs t).claims (at call-rank t) call-rank.po
     (λ c κs. pair (omega arith) (past-symbol refl c.expect-open.ensures)) (λ c κs. let pass = c.pass-a in
     ready-leaves pass.ensures.1.0 pass.auto.s refl (ready-part pass.ensures.0.1 refl)) (λ c. omega arith)
     -- returns-2
-    (λ c.
-    leaves ((λ src l. arguments-read src _ _ c.free_of-lo.ensures.1 c.if-levels-eq0.false) from c.expect-open.ensures.1 with
+    (λ c. leaves ((λ src l. arguments-read src _ _ c.free_of-lo.ensures.1 c.if-levels-eq0.false) from c.expect-open.ensures.1 with
     c.pass-a.ensures.1 adding c.close_item.ensures.1) refl)
 
 abbrev pub pass-cs : ℕ → Calls cycle.Lts-pass.Claims
@@ -174,8 +165,7 @@ pass-ok t = cycle.Lts-pass.spec (pass-cs t).claims (at pass-rank t) pass-rank.po
     pair (omega arith) (ready-takes arg.ensures.1.0 arg.auto.s (ready-part arg.ensures.0.1 refl)))
     (λ c κs. let e = c.also-last in pair (past-part refl e.ensures e.auto.s) (omega arith)) (λ c. omega arith)
     -- returns-2
-    (λ c.
-    pair (room-left
+    (λ c. pair (room-left
     (taken c.arg-first.ensures.1.0 plus c.also-last.ensures.1.0 plus c.expect-2.ensures.1.0) refl)
     (λ src l. (let l₁ = lies-still l c.arg-first.ensures.1.0.kept in let l₂ = lies-still l₁ c.also-last.ensures.1.0.kept in
     some-arguments src _ (c.kind_here-kind.ensures.1 src l) 0 l.count c.if-kind-eq-CLOSE.false (c.arg-first.ensures.1.1 src l)
@@ -189,13 +179,11 @@ arg-ok t = cycle.Lts-arg.spec (arg-cs t).claims (at arg-rank t) arg-rank.post (�
     (λ c κs. let begin-item = c.begin_item-begun in
     pair (omega arith) (pair (ready-takes begin-item.ensures.1.0 begin-item.auto.s begin-item.ensures.0) (omega arith)))
     -- set-size-requires
-    (λ c κs.
-    pair (past-expression refl c.expr-a.ensures c.expr-a.auto.s)
+    (λ c κs. pair (past-expression refl c.expr-a.ensures c.expr-a.auto.s)
     (item-low c.free_of-lo.ensures.1 (ready-part c.begin_item-begun.ensures.0 refl)))
     (λ c. omega arith)
     -- returns
-    (λ c.
-    takes ((λ src l. argument-read src _ _ c.free_of-lo.ensures.1 (low c.begin_item-begun.ensures.0)) writing
+    (λ c. takes ((λ src l. argument-read src _ _ c.free_of-lo.ensures.1 (low c.begin_item-begun.ensures.0)) writing
     c.begin_item-begun.ensures.1 with c.expr-a.ensures.1 setting c.set_size.ensures.1) refl)
 
 abbrev pub also-cs : ℕ → Calls cycle.Lts-also.Claims
@@ -218,8 +206,7 @@ also-ok t = cycle.Lts-also.spec (also-cs t).claims (at also-rank t) also-rank.po
     c.kind_here-kind.ensures.1 (ne_eqb _ _ c.if-kind-ne-COMMA.true)) (λ c κs. pair c.kind_here-kind.ensures.0 (omega arith))
     (λ c κs. pair (omega arith) (past-symbol refl c.expect-comma.ensures)) (λ c. omega arith) (λ c. omega arith) (λ c. omega arith)
     -- loop-again
-    (λ c.
-    pair (many-turns _ _ _ _ expression-next c.loop-turns.invariant.0 c.kind_here-kind.ensures.1 (eq-eqb _ _ c.if-kind-ne-COMMA.false)
+    (λ c. pair (many-turns _ _ _ _ expression-next c.loop-turns.invariant.0 c.kind_here-kind.ensures.1 (eq-eqb _ _ c.if-kind-ne-COMMA.false)
     (at-any (further-reads _ c.expect-comma.ensures.1 c.arg-a.ensures.1)) c.arg-a.auto.s (omega arith))
     (omega (arith, c.loop-turns.invariant.1)))
     (λ c. omega arith) (λ c. many-spent _ _ _ _ expression-last no-expression-counted refl c.loop-turns.invariant.0 (omega arith))
@@ -241,8 +228,7 @@ rest_ok t =
     c.requires.1) (omega arith))
     (λ c κs. pair (omega arith) (past-symbol refl c.expect-comma.ensures)) (λ c. omega arith) (λ c. omega arith)
     -- loop-again
-    (λ c.
-    so-turns c.loop-left.invariant
+    (λ c. so-turns c.loop-left.invariant
     (C.further (readers (within c.args.levels)) (c.loop-left.left - 1)) value-next
     (further-reads _ c.expect-comma.ensures.1 c.arg-a.ensures.1) c.arg-a.auto.s
     (λ src l at free e. value-turn c.args.levels src c.loop-left.left at (omega arith)))
@@ -258,8 +244,7 @@ index_ok t = cycle.Lts-index.spec (index-cs t).claims (at index-rank t) index-ra
     (λ c κs. ready-leaves c.unary-a.ensures.1.0 c.unary-a.auto.s refl
     (past-symbol refl c.expect-pling.ensures)) (λ c. omega arith)
     -- returns
-    (λ c.
-    leaves
+    (λ c. leaves
     ((λ src l. index_read src _ _ c.free_of-lo.ensures.1) from c.expect-pling.ensures.1 with c.unary-a.ensures.1 adding
     c.close_item.ensures.1) refl)
 
@@ -269,13 +254,10 @@ unary-cs t = calls-4 kind-here is-monadic (below monad-rank t) (below unit-rank 
 pub unary-ok : {M : Type 1} (t : ℕ) → cycle.Lts-unary.Closed (unary-cs t).claims (at unary-rank t) unary-rank.post M
 unary-ok t = cycle.Lts-unary.spec (unary-cs t).claims (at unary-rank t) unary-rank.post (λ c κs. omega arith) (λ c κs. tt)
     -- monad-requires
-    (λ c κs.
-    pair (omega arith) (pair c.requires.1 (monadic-positive _ c.is_monadic.ensures.1 c.if-is_monadic.true)))
+    (λ c κs. pair (omega arith) (pair c.requires.1 (monadic-positive _ c.is_monadic.ensures.1 c.if-is_monadic.true)))
     (λ c κs. omega arith) (λ c. omega arith)
     -- returns
-    (λ c.
-    subscript-monadic _ c.kind_here-kind.ensures.1 c.is_monadic.ensures.1 c.if-is_monadic.true c.monad.ensures.1)
+    (λ c. subscript-monadic _ c.kind_here-kind.ensures.1 c.is_monadic.ensures.1 c.if-is_monadic.true c.monad.ensures.1)
     (λ c. omega arith)
     -- returns-2
-    (λ c.
-    subscript-primary _ c.kind_here-kind.ensures.1 c.is_monadic.ensures.1 c.if-is_monadic.false c.unit.ensures.1)
+    (λ c. subscript-primary _ c.kind_here-kind.ensures.1 c.is_monadic.ensures.1 c.if-is_monadic.false c.unit.ensures.1)
