@@ -2,7 +2,6 @@
 //
 // Each function takes the state of the reading so far and gives the next one; a refusal is passed on as it is, so that a construct
 // is a few lines, one for each part. `levels` is how many levels are left; every round of the cycle takes one.
-// The names are short because the proof of a cycle is named after all its functions, and that name may have 200 bytes (README).
 ghost use Rattle.std.specs.Prelude.{◌+◌, ◌-◌, ◌<◌, ◌≤◌, ◌≡◌, true, false, List, ◌∷◌, length, eqb};
 ghost use Rattle.language.specs.Kinds as K;
 ghost use Rattle.language.specs.Tree as T;
