@@ -3,7 +3,7 @@ use Prim.Native.Nat.{ℕ}
 use mathlib.Core.List.{List, [], ◌∷◌}
 use seplogic.Ra.Ura.{Ura}
 use mir.Val.{Val}
-use mir.Syntax.{Name}
+use mir.Syntax.{Symbol, fn₀}
 use prog.Wp.{Tables}
 use types.Logic.{Logic, sem}
 use base.Logic.{SProp, sep, ex, ex_e, ex_i, via, mono_l, mono_r, snd∗}
@@ -25,9 +25,9 @@ pub record Callee : Type 3 where
   pub r : ResultKind n
   pub asks : In n ps
   pub learnt : Out n ps r
-  pub name : Name
+  pub name : Symbol
 
-abbrev pub callee : {n : ℕ} (ps : List (ParamKind n)) (r : ResultKind n) → In n ps → Out n ps r → Name → Callee
+abbrev pub callee : {n : ℕ} (ps : List (ParamKind n)) (r : ResultKind n) → In n ps → Out n ps r → Symbol → Callee
 callee {n} ps r asks learnt name = record { n = n; ps = ps; r = r; asks = asks; learnt = learnt; name = name }
 
 abbrev pub with-asked : Callee → Callee
@@ -35,7 +35,7 @@ with-asked c = callee c.ps c.r c.asks (λ κs a z e. c.asks κs a × c.learnt κ
 
 module _ {M : Type 1} {𝓤 : Ura M} (𝓛 : Logic 𝓤) (𝓣 : Tables 𝓤 𝓛.H) where
   abbrev Knows : Callee → Type 1
-  Knows c = Known 𝓛 𝓣 c.n c.ps c.r c.asks c.learnt c.name
+  Knows c = Known 𝓛 𝓣 c.n c.ps c.r c.asks c.learnt (fn₀ c.name)
 
   module _ (c : Callee) where
     abbrev S : Signature
@@ -54,7 +54,7 @@ module _ {M : Type 1} {𝓤 : Ura M} (𝓛 : Logic 𝓤) (𝓣 : Tables 𝓤 �
     remembers known y = let x : Bound 𝓛 S = y.0 in let before = known_of 𝓛 c.n c.ps c.r c.asks c.learnt in
         let after = After (with-asked c).learnt x in
         fact_use 𝓤 (c.asks x.0 x.3) (snd∗ 𝓤 (on_entry 𝓛 S x.0 x.1 x.3 x.4) (fact 𝓤 (c.asks x.0 x.3))) (λ p.
-        via 𝓤 (𝓣.C c.name (before.args y) (before.post y)) (known y) (𝓣.mono c.name (before.args y) (before.post y)
+        via 𝓤 (𝓣.C (fn₀ c.name) (before.args y) (before.post y)) (known y) (𝓣.mono (fn₀ c.name) (before.args y) (before.post y)
         ((known_of 𝓛 c.n c.ps c.r c.asks (with-asked c).learnt).post y)
         (λ v. 𝓛.laws.⇛_mono _ _ (ex_e 𝓤 _ (λ z. ex_e 𝓤 _ (λ ws. via 𝓤 (after v z ws)
         (mono_l 𝓤 (Back 𝓛 S x v z) (mono_r 𝓤 (sem 𝓛 (lasts ends x.0 x.3 ws)) (fact_mono 𝓤 _ _ (λ h. (h.0, (p, h.1))))))

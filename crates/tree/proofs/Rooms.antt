@@ -90,9 +90,9 @@ module _ {s s' : List ℕ} {n : ℕ} {r r' : State} where
   }
 
 module _ {s s' s'' : List ℕ} {n : ℕ} {r r' r'' : State} where
-  infixr 5 ◌and-then◌
-  ◌and-then◌ : {a b c d : ℕ} → Moves a b s s' n r r' → Moves c d s' s'' n r' r'' → Moves (a + c) (b + d) s s'' n r r''
-  ◌and-then◌ {a} {b} {c} {d} f g = record {
+  infixr 5 ◌and_then◌
+  ◌and_then◌ : {a b c d : ℕ} → Moves a b s s' n r r' → Moves c d s' s'' n r' r'' → Moves (a + c) (b + d) s s'' n r r''
+  ◌and_then◌ {a} {b} {c} {d} f g = record {
     placed = g.placed;
     above = g.above;
     moves = by-lives (λ x y. reach n r' + x * a ≤ reach n r + x * b → reach n r'' + y * c ≤ reach n r' + y * d → reach n r'' ≤ y * 2 ^ 32

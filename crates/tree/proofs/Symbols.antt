@@ -3,9 +3,9 @@ use Rattle.laws.proofs.Basics.{ℕ, ◌+◌, ◌*◌, ◌<◌, ◌≤◌, ◌≡
 use Rattle.laws.proofs.Basics.{List·getD-eq-default, get_or-take, eqb, ltb, arith, eqb-true, eq-eqb, ne_eqb, ltb-true, ltb-false}
 use Rattle.laws.proofs.Cases.{by_cases, contradiction}
 use Rattle.language.specs.Symbols.{Symbol}
-use Rattle.language.specs.Reader.{Source, Out, ok, no, on_out, kind_at, place_at, is, unexpected, the}
+use Rattle.language.specs.Reader.{Source, Out, ok, no, on_out, kind_at, place_at, unexpected, the}
 use Rattle.tree.specs.Reads.{HoldsSymbols, Here, KindHere, Follows, Encodes, Reads, Passes, next_of}
-use Rattle.tree.proofs.Steps.{bind, here, nothing}
+use Rattle.tree.proofs.Steps.{bind, nothing}
 use Rattle.tree.specs.declared.scratch.State.{State}
 use Rattle.tree.specs.declared.scratch.State.TheVariants.{Read, Refused}
 

@@ -1,8 +1,7 @@
 -- What the functions of the reader ask and ensure.
 -- Each takes the state of the reading so far and gives the next one; a refusal is passed on as it is.
 use Rattle.std.specs.Prelude.{ℕ, ◌+◌, ◌*◌, ◌-◌, ◌≤◌, ◌<◌, ◌^◌, ◌≡◌, List, [], ◌∷◌, ◌++◌, length, take, get_or, set}
-use Rattle.language.specs.Tree.{count}
-use Rattle.language.specs.Reader.{Source, Out, ok, no, Reader, is, kind_at, value_at, place_at}
+use Rattle.language.specs.Reader.{Source, Out, ok, no, Reader, kind_at, value_at, place_at}
 use Rattle.tree.specs.declared.scratch.State.{State}
 use Rattle.tree.specs.declared.scratch.State.TheVariants.{Read, Refused}
 

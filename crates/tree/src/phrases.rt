@@ -2,7 +2,6 @@
 //
 // Each function takes the state of the reading so far and gives the next one; a refusal is passed on as it is, so that a construct
 // is a few lines, one for each part. `levels` is how many levels are left; every round of the cycle takes one.
-// The names are short because the proof of a cycle is named after all its functions, and that name may have 200 bytes (README).
 ghost use Rattle.std.specs.Prelude.{◌+◌, ◌-◌, ◌<◌, ◌≤◌, ◌≡◌, true, false, List, ◌∷◌, length, eqb};
 ghost use Rattle.language.specs.Kinds as K;
 ghost use Rattle.language.specs.Tree as T;
@@ -49,7 +48,7 @@ struct FurtherRead {
 
 // An expression whose dyadic operators bind no more loosely than that. At the binding of NOT stands NOT and its operand, or a shift
 // expression.
-#[cycle(also_arg_bare_block_body_call_cases_cmd_expr_form_forms_give_index_init_item_lets_list_local_monad_nest_op_pass_pick_plain_redo_rest_run_set_step_tail_tails_term_test_till_unary_unit_valof_when_whole)]
+#[cycle(phrases)]
 pub(crate) fn expr(s: &mut [u32], n: usize, levels: usize, binding: u32, r: State) -> State
     requires { Ready 0 s.old n r × (binding ≤ B.LOOSEST) }
     ensures { Reading 1 (E.expression (within levels) binding) (Encodes encode) s.old s.new n r result }
@@ -79,7 +78,7 @@ pub(crate) fn expr(s: &mut [u32], n: usize, levels: usize, binding: u32, r: Stat
 }
 
 // operator operand
-#[cycle(also_arg_bare_block_body_call_cases_cmd_expr_form_forms_give_index_init_item_lets_list_local_monad_nest_op_pass_pick_plain_redo_rest_run_set_step_tail_tails_term_test_till_unary_unit_valof_when_whole)]
+#[cycle(phrases)]
 fn op(s: &mut [u32], n: usize, levels: usize, right: u32, kind: u32, r: State) -> State
     requires { Ready 0 s.old n r × (right ≤ B.LOOSEST) × (0 < kind) }
     ensures { ReadingAt kind 4 (E.operation (E.expression (within levels) right)) (Prepends encode_operations) s.old s.new
@@ -94,7 +93,7 @@ fn op(s: &mut [u32], n: usize, levels: usize, right: u32, kind: u32, r: State) -
 }
 
 // The operations after the first: there is at most one relation.
-#[cycle(also_arg_bare_block_body_call_cases_cmd_expr_form_forms_give_index_init_item_lets_list_local_monad_nest_op_pass_pick_plain_redo_rest_run_set_step_tail_tails_term_test_till_unary_unit_valof_when_whole)]
+#[cycle(phrases)]
 fn run(s: &mut [u32], n: usize, levels: usize, binding: u32, right: u32, r: State) -> State
     requires { Ready 0 s.old n r × (right ≤ B.LOOSEST) × (0 < binding) }
     ensures { Reading 0 (many_up_to (further_most binding n) T.no_operations (λ kind. eqb (binding_of kind) binding)
@@ -114,7 +113,7 @@ fn run(s: &mut [u32], n: usize, levels: usize, binding: u32, right: u32, r: Stat
 }
 
 // An operand of the operators that bind tightest.
-#[cycle(also_arg_bare_block_body_call_cases_cmd_expr_form_forms_give_index_init_item_lets_list_local_monad_nest_op_pass_pick_plain_redo_rest_run_set_step_tail_tails_term_test_till_unary_unit_valof_when_whole)]
+#[cycle(phrases)]
 fn term(s: &mut [u32], n: usize, levels: usize, r: State) -> State
     requires { Ready 0 s.old n r }
     ensures { Reading 1 (E.operand (within levels)) (Encodes encode) s.old s.new n r result }
@@ -128,7 +127,7 @@ fn term(s: &mut [u32], n: usize, levels: usize, r: State) -> State
 }
 
 // ! @ + - or NOT, and its operand.
-#[cycle(also_arg_bare_block_body_call_cases_cmd_expr_form_forms_give_index_init_item_lets_list_local_monad_nest_op_pass_pick_plain_redo_rest_run_set_step_tail_tails_term_test_till_unary_unit_valof_when_whole)]
+#[cycle(phrases)]
 fn monad(s: &mut [u32], n: usize, levels: usize, kind: u32, r: State) -> State
     requires { Ready 0 s.old n r × (0 < kind) }
     ensures { ReadingAt kind 1 (E.monadic (within levels)) (Encodes encode) s.old s.new n r result }
@@ -144,7 +143,7 @@ fn monad(s: &mut [u32], n: usize, levels: usize, kind: u32, r: State) -> State
 }
 
 // primary { ( arguments ) | ! primary }
-#[cycle(also_arg_bare_block_body_call_cases_cmd_expr_form_forms_give_index_init_item_lets_list_local_monad_nest_op_pass_pick_plain_redo_rest_run_set_step_tail_tails_term_test_till_unary_unit_valof_when_whole)]
+#[cycle(phrases)]
 fn whole(s: &mut [u32], n: usize, levels: usize, r: State) -> State
     requires { Ready 0 s.old n r }
     ensures { Reading 1 (E.suffixed (within levels)) (Encodes encode) s.old s.new n r result }
@@ -164,7 +163,7 @@ fn whole(s: &mut [u32], n: usize, levels: usize, r: State) -> State
 }
 
 // ( arguments ) | ! primary
-#[cycle(also_arg_bare_block_body_call_cases_cmd_expr_form_forms_give_index_init_item_lets_list_local_monad_nest_op_pass_pick_plain_redo_rest_run_set_step_tail_tails_term_test_till_unary_unit_valof_when_whole)]
+#[cycle(phrases)]
 fn tail(s: &mut [u32], n: usize, levels: usize, kind: u32, r: State) -> State
     requires { Ready 0 s.old n r }
     ensures { ReadingAt kind 4 (E.suffix (within levels)) (PrependsSuffix (eqb kind K.OPEN)) s.old s.new n r result }
@@ -177,7 +176,7 @@ fn tail(s: &mut [u32], n: usize, levels: usize, kind: u32, r: State) -> State
 }
 
 // The suffixes after the first, which is a call or is not.
-#[cycle(also_arg_bare_block_body_call_cases_cmd_expr_form_forms_give_index_init_item_lets_list_local_monad_nest_op_pass_pick_plain_redo_rest_run_set_step_tail_tails_term_test_till_unary_unit_valof_when_whole)]
+#[cycle(phrases)]
 fn tails(s: &mut [u32], n: usize, levels: usize, first: bool, r: State) -> SuffixesRead
     requires { Ready 0 s.old n r }
     ensures { Reading 0 (many_up_to (n - 1) T.no_suffixes is_suffix (E.suffix (within levels))) (Ended first result.call) s.old
@@ -200,7 +199,7 @@ fn tails(s: &mut [u32], n: usize, levels: usize, first: bool, r: State) -> Suffi
 }
 
 // ( [expression {, expression}] ), after what is called.
-#[cycle(also_arg_bare_block_body_call_cases_cmd_expr_form_forms_give_index_init_item_lets_list_local_monad_nest_op_pass_pick_plain_redo_rest_run_set_step_tail_tails_term_test_till_unary_unit_valof_when_whole)]
+#[cycle(phrases)]
 fn call(s: &mut [u32], n: usize, levels: usize, r: State) -> State
     requires { Ready 0 s.old n r }
     ensures { Reading 4 (E.arguments (within levels)) (PrependsSuffix true) s.old s.new n r result }
@@ -215,7 +214,7 @@ fn call(s: &mut [u32], n: usize, levels: usize, r: State) -> State
 }
 
 // [expression {, expression}] )
-#[cycle(also_arg_bare_block_body_call_cases_cmd_expr_form_forms_give_index_init_item_lets_list_local_monad_nest_op_pass_pick_plain_redo_rest_run_set_step_tail_tails_term_test_till_unary_unit_valof_when_whole)]
+#[cycle(phrases)]
 fn pass(s: &mut [u32], n: usize, levels: usize, r: State) -> State
     requires { Ready 3 s.old n r }
     ensures { Reading 4 (up_to_close T.no_expressions (an_argument levels)) (Encodes encode_expressions) s.old s.new n r result }
@@ -231,7 +230,7 @@ fn pass(s: &mut [u32], n: usize, levels: usize, r: State) -> State
 }
 
 // An argument, as an item.
-#[cycle(also_arg_bare_block_body_call_cases_cmd_expr_form_forms_give_index_init_item_lets_list_local_monad_nest_op_pass_pick_plain_redo_rest_run_set_step_tail_tails_term_test_till_unary_unit_valof_when_whole)]
+#[cycle(phrases)]
 fn arg(s: &mut [u32], n: usize, levels: usize, r: State) -> State
     requires { Ready 2 s.old n r }
     ensures { TakesRoom 1 s.old s.new n r result
@@ -246,7 +245,7 @@ fn arg(s: &mut [u32], n: usize, levels: usize, r: State) -> State
 }
 
 // {, expression}
-#[cycle(also_arg_bare_block_body_call_cases_cmd_expr_form_forms_give_index_init_item_lets_list_local_monad_nest_op_pass_pick_plain_redo_rest_run_set_step_tail_tails_term_test_till_unary_unit_valof_when_whole)]
+#[cycle(phrases)]
 fn also(s: &mut [u32], n: usize, levels: usize, r: State) -> FurtherRead
     requires { Ready 0 s.old n r }
     ensures { Reading 0 (many_up_to n T.no_expressions is_comma (a_further levels)) (Counted result.count) s.old s.new n r
@@ -269,7 +268,7 @@ fn also(s: &mut [u32], n: usize, levels: usize, r: State) -> FurtherRead
 }
 
 // ! primary
-#[cycle(also_arg_bare_block_body_call_cases_cmd_expr_form_forms_give_index_init_item_lets_list_local_monad_nest_op_pass_pick_plain_redo_rest_run_set_step_tail_tails_term_test_till_unary_unit_valof_when_whole)]
+#[cycle(phrases)]
 fn index(s: &mut [u32], n: usize, levels: usize, r: State) -> State
     requires { Ready 0 s.old n r }
     ensures { Reading 4 (E.index (within levels)) (PrependsSuffix false) s.old s.new n r result }
@@ -281,7 +280,7 @@ fn index(s: &mut [u32], n: usize, levels: usize, r: State) -> State
 }
 
 // A monadic operator may begin any operand.
-#[cycle(also_arg_bare_block_body_call_cases_cmd_expr_form_forms_give_index_init_item_lets_list_local_monad_nest_op_pass_pick_plain_redo_rest_run_set_step_tail_tails_term_test_till_unary_unit_valof_when_whole)]
+#[cycle(phrases)]
 fn unary(s: &mut [u32], n: usize, levels: usize, r: State) -> State
     requires { Ready 0 s.old n r }
     ensures { Reading 1 (E.subscript (within levels)) (Encodes encode) s.old s.new n r result }
@@ -295,7 +294,7 @@ fn unary(s: &mut [u32], n: usize, levels: usize, r: State) -> State
 }
 
 // number | string | TRUE | FALSE | name | ( expression ) | VALOF command
-#[cycle(also_arg_bare_block_body_call_cases_cmd_expr_form_forms_give_index_init_item_lets_list_local_monad_nest_op_pass_pick_plain_redo_rest_run_set_step_tail_tails_term_test_till_unary_unit_valof_when_whole)]
+#[cycle(phrases)]
 fn unit(s: &mut [u32], n: usize, levels: usize, r: State) -> State
     requires { Ready 0 s.old n r }
     ensures { Reading 1 (E.primary (within levels)) (Encodes encode) s.old s.new n r result }
@@ -309,7 +308,7 @@ fn unit(s: &mut [u32], n: usize, levels: usize, r: State) -> State
 }
 
 // ( expression )
-#[cycle(also_arg_bare_block_body_call_cases_cmd_expr_form_forms_give_index_init_item_lets_list_local_monad_nest_op_pass_pick_plain_redo_rest_run_set_step_tail_tails_term_test_till_unary_unit_valof_when_whole)]
+#[cycle(phrases)]
 fn nest(s: &mut [u32], n: usize, levels: usize, r: State) -> State
     requires { Ready 0 s.old n r }
     ensures { Reading 1 (E.bracketed (within levels)) (Encodes encode) s.old s.new n r result }
@@ -326,7 +325,7 @@ fn nest(s: &mut [u32], n: usize, levels: usize, r: State) -> State
 }
 
 // VALOF command
-#[cycle(also_arg_bare_block_body_call_cases_cmd_expr_form_forms_give_index_init_item_lets_list_local_monad_nest_op_pass_pick_plain_redo_rest_run_set_step_tail_tails_term_test_till_unary_unit_valof_when_whole)]
+#[cycle(phrases)]
 fn valof(s: &mut [u32], n: usize, levels: usize, r: State) -> State
     requires { Ready 0 s.old n r }
     ensures { Reading 1 (E.valof (within levels)) (Encodes encode) s.old s.new n r result }
@@ -342,7 +341,7 @@ fn valof(s: &mut [u32], n: usize, levels: usize, r: State) -> State
 }
 
 // A command, with its labels before it.
-#[cycle(also_arg_bare_block_body_call_cases_cmd_expr_form_forms_give_index_init_item_lets_list_local_monad_nest_op_pass_pick_plain_redo_rest_run_set_step_tail_tails_term_test_till_unary_unit_valof_when_whole)]
+#[cycle(phrases)]
 pub(crate) fn cmd(s: &mut [u32], n: usize, levels: usize, r: State) -> State
     requires { Ready 0 s.old n r }
     ensures { Reading 0 (C.command (within levels)) (Encodes encode_command) s.old s.new n r result }
@@ -355,7 +354,7 @@ pub(crate) fn cmd(s: &mut [u32], n: usize, levels: usize, r: State) -> State
 }
 
 // Labels and what follows them.
-#[cycle(also_arg_bare_block_body_call_cases_cmd_expr_form_forms_give_index_init_item_lets_list_local_monad_nest_op_pass_pick_plain_redo_rest_run_set_step_tail_tails_term_test_till_unary_unit_valof_when_whole)]
+#[cycle(phrases)]
 fn cases(s: &mut [u32], n: usize, levels: usize, kind: u32, r: State) -> State
     requires { Ready 0 s.old n r }
     ensures { LeavesRoom 0 s.old s.new n r result × ((src : Source) → HoldsSymbols src n s.old → KindHere src r kind
@@ -370,7 +369,7 @@ fn cases(s: &mut [u32], n: usize, levels: usize, kind: u32, r: State) -> State
 }
 
 // unlabelled { REPEAT form }, whose first symbol opens a level; or an empty command, after labels.
-#[cycle(also_arg_bare_block_body_call_cases_cmd_expr_form_forms_give_index_init_item_lets_list_local_monad_nest_op_pass_pick_plain_redo_rest_run_set_step_tail_tails_term_test_till_unary_unit_valof_when_whole)]
+#[cycle(phrases)]
 fn body(s: &mut [u32], n: usize, levels: usize, labelled: bool, r: State) -> State
     requires { Ready 0 s.old n r }
     ensures { Reading 0 (body_after labelled levels) (Encodes encode_repeated_only) s.old s.new n r result }
@@ -389,7 +388,7 @@ fn body(s: &mut [u32], n: usize, levels: usize, labelled: bool, r: State) -> Sta
 }
 
 // unlabelled { REPEAT form }
-#[cycle(also_arg_bare_block_body_call_cases_cmd_expr_form_forms_give_index_init_item_lets_list_local_monad_nest_op_pass_pick_plain_redo_rest_run_set_step_tail_tails_term_test_till_unary_unit_valof_when_whole)]
+#[cycle(phrases)]
 fn redo(s: &mut [u32], n: usize, levels: usize, r: State) -> State
     requires { Ready 0 s.old n r }
     ensures { Reading 0 (repeated_only levels) (Encodes encode_repeated_only) s.old s.new n r result }
@@ -407,7 +406,7 @@ fn redo(s: &mut [u32], n: usize, levels: usize, r: State) -> State
 }
 
 // The REPEAT forms after the first.
-#[cycle(also_arg_bare_block_body_call_cases_cmd_expr_form_forms_give_index_init_item_lets_list_local_monad_nest_op_pass_pick_plain_redo_rest_run_set_step_tail_tails_term_test_till_unary_unit_valof_when_whole)]
+#[cycle(phrases)]
 fn forms(s: &mut [u32], n: usize, levels: usize, r: State) -> State
     requires { Ready 0 s.old n r }
     ensures { Reading 0 (many_up_to (n - 1) T.no_repeats is_repeat (C.repeat_form (readers (within levels)))) (Encodes encode_repeats)
@@ -428,7 +427,7 @@ fn forms(s: &mut [u32], n: usize, levels: usize, r: State) -> State
 }
 
 // REPEAT | REPEATWHILE expression | REPEATUNTIL expression
-#[cycle(also_arg_bare_block_body_call_cases_cmd_expr_form_forms_give_index_init_item_lets_list_local_monad_nest_op_pass_pick_plain_redo_rest_run_set_step_tail_tails_term_test_till_unary_unit_valof_when_whole)]
+#[cycle(phrases)]
 fn form(s: &mut [u32], n: usize, levels: usize, kind: u32, r: State) -> State
     requires { Ready 0 s.old n r × (0 < kind) }
     ensures { ReadingAt kind 3 (C.repeat_form (readers (within levels))) (Prepends encode_repeats) s.old s.new n r result }
@@ -445,7 +444,7 @@ fn form(s: &mut [u32], n: usize, levels: usize, kind: u32, r: State) -> State
 }
 
 // A command without its labels and REPEAT forms, by its first symbol.
-#[cycle(also_arg_bare_block_body_call_cases_cmd_expr_form_forms_give_index_init_item_lets_list_local_monad_nest_op_pass_pick_plain_redo_rest_run_set_step_tail_tails_term_test_till_unary_unit_valof_when_whole)]
+#[cycle(phrases)]
 fn plain(s: &mut [u32], n: usize, levels: usize, r: State) -> State
     requires { Ready 0 s.old n r }
     ensures { Reading 1 (C.unlabelled (readers (within levels))) (Encodes encode_unlabelled) s.old s.new n r result }
@@ -468,7 +467,7 @@ fn plain(s: &mut [u32], n: usize, levels: usize, r: State) -> State
 }
 
 // TEST expression DO command OR command
-#[cycle(also_arg_bare_block_body_call_cases_cmd_expr_form_forms_give_index_init_item_lets_list_local_monad_nest_op_pass_pick_plain_redo_rest_run_set_step_tail_tails_term_test_till_unary_unit_valof_when_whole)]
+#[cycle(phrases)]
 fn test(s: &mut [u32], n: usize, levels: usize, r: State) -> State
     requires { Ready 0 s.old n r }
     ensures { Reading 1 (C.test (readers (within levels))) (Encodes encode_unlabelled) s.old s.new n r result }
@@ -484,7 +483,7 @@ fn test(s: &mut [u32], n: usize, levels: usize, r: State) -> State
 }
 
 // IF expression DO command, and so UNLESS, WHILE and UNTIL
-#[cycle(also_arg_bare_block_body_call_cases_cmd_expr_form_forms_give_index_init_item_lets_list_local_monad_nest_op_pass_pick_plain_redo_rest_run_set_step_tail_tails_term_test_till_unary_unit_valof_when_whole)]
+#[cycle(phrases)]
 fn when(s: &mut [u32], n: usize, levels: usize, kind: u32, r: State) -> State
     requires { Ready 0 s.old n r × (0 < kind) }
     ensures { ReadingAt kind 1 (C.guarded (readers (within levels))) (Encodes encode_unlabelled) s.old s.new n r result }
@@ -498,7 +497,7 @@ fn when(s: &mut [u32], n: usize, levels: usize, kind: u32, r: State) -> State
 }
 
 // RESULTIS expression
-#[cycle(also_arg_bare_block_body_call_cases_cmd_expr_form_forms_give_index_init_item_lets_list_local_monad_nest_op_pass_pick_plain_redo_rest_run_set_step_tail_tails_term_test_till_unary_unit_valof_when_whole)]
+#[cycle(phrases)]
 fn give(s: &mut [u32], n: usize, levels: usize, r: State) -> State
     requires { Ready 0 s.old n r }
     ensures { Reading 1 (C.resultis (readers (within levels))) (Encodes encode_unlabelled) s.old s.new n r result }
@@ -511,7 +510,7 @@ fn give(s: &mut [u32], n: usize, levels: usize, r: State) -> State
 }
 
 // FOR name = expression TO expression [BY constant] DO command
-#[cycle(also_arg_bare_block_body_call_cases_cmd_expr_form_forms_give_index_init_item_lets_list_local_monad_nest_op_pass_pick_plain_redo_rest_run_set_step_tail_tails_term_test_till_unary_unit_valof_when_whole)]
+#[cycle(phrases)]
 fn step(s: &mut [u32], n: usize, levels: usize, r: State) -> State
     requires { Ready 0 s.old n r }
     ensures { Reading 1 (C.for (readers (within levels))) (Encodes encode_unlabelled) s.old s.new n r result }
@@ -531,7 +530,7 @@ fn step(s: &mut [u32], n: usize, levels: usize, r: State) -> State
 }
 
 // SWITCHON expression INTO $( command { ; command } [;] $)
-#[cycle(also_arg_bare_block_body_call_cases_cmd_expr_form_forms_give_index_init_item_lets_list_local_monad_nest_op_pass_pick_plain_redo_rest_run_set_step_tail_tails_term_test_till_unary_unit_valof_when_whole)]
+#[cycle(phrases)]
 fn pick(s: &mut [u32], n: usize, levels: usize, r: State) -> State
     requires { Ready 0 s.old n r }
     ensures { Reading 1 (C.switchon (readers (within levels))) (Encodes encode_unlabelled) s.old s.new n r result }
@@ -548,7 +547,7 @@ fn pick(s: &mut [u32], n: usize, levels: usize, r: State) -> State
 }
 
 // A command, as an item.
-#[cycle(also_arg_bare_block_body_call_cases_cmd_expr_form_forms_give_index_init_item_lets_list_local_monad_nest_op_pass_pick_plain_redo_rest_run_set_step_tail_tails_term_test_till_unary_unit_valof_when_whole)]
+#[cycle(phrases)]
 fn item(s: &mut [u32], n: usize, levels: usize, r: State) -> State
     requires { Ready 2 s.old n r }
     ensures { TakesRoom 2 s.old s.new n r result
@@ -563,7 +562,7 @@ fn item(s: &mut [u32], n: usize, levels: usize, r: State) -> State
 }
 
 // { ; command } [;] $)
-#[cycle(also_arg_bare_block_body_call_cases_cmd_expr_form_forms_give_index_init_item_lets_list_local_monad_nest_op_pass_pick_plain_redo_rest_run_set_step_tail_tails_term_test_till_unary_unit_valof_when_whole)]
+#[cycle(phrases)]
 fn list(s: &mut [u32], n: usize, levels: usize, r: State) -> State
     requires { Ready 0 s.old n r }
     ensures { Reading 5 (more_up_to n T.no_commands (C.listed (readers (within levels)))) (Encodes encode_commands) s.old
@@ -588,7 +587,7 @@ fn list(s: &mut [u32], n: usize, levels: usize, r: State) -> State
 }
 
 // [ command { ; command } ] [;] $)
-#[cycle(also_arg_bare_block_body_call_cases_cmd_expr_form_forms_give_index_init_item_lets_list_local_monad_nest_op_pass_pick_plain_redo_rest_run_set_step_tail_tails_term_test_till_unary_unit_valof_when_whole)]
+#[cycle(phrases)]
 fn till(s: &mut [u32], n: usize, levels: usize, r: State) -> State
     requires { Ready 2 s.old n r }
     ensures { Reading 3 (C.commands_to_end (readers (within levels))) (Encodes encode_commands) s.old s.new n r result }
@@ -608,7 +607,7 @@ fn till(s: &mut [u32], n: usize, levels: usize, r: State) -> State
 }
 
 // $( { LET local [;] } [ command { ; command } ] [;] $)
-#[cycle(also_arg_bare_block_body_call_cases_cmd_expr_form_forms_give_index_init_item_lets_list_local_monad_nest_op_pass_pick_plain_redo_rest_run_set_step_tail_tails_term_test_till_unary_unit_valof_when_whole)]
+#[cycle(phrases)]
 fn block(s: &mut [u32], n: usize, levels: usize, r: State) -> State
     requires { Ready 0 s.old n r }
     ensures { Reading 1 (C.block (readers (within levels))) (Encodes encode_unlabelled) s.old s.new n r result }
@@ -622,7 +621,7 @@ fn block(s: &mut [u32], n: usize, levels: usize, r: State) -> State
 }
 
 // { LET local [;] }
-#[cycle(also_arg_bare_block_body_call_cases_cmd_expr_form_forms_give_index_init_item_lets_list_local_monad_nest_op_pass_pick_plain_redo_rest_run_set_step_tail_tails_term_test_till_unary_unit_valof_when_whole)]
+#[cycle(phrases)]
 fn lets(s: &mut [u32], n: usize, levels: usize, r: State) -> State
     requires { Ready 0 s.old n r }
     ensures { Reading 0 (many_up_to n T.no_locals (λ kind. eqb kind K.LET) (C.local (readers (within levels)))) (Encodes encode_locals)
@@ -642,7 +641,7 @@ fn lets(s: &mut [u32], n: usize, levels: usize, r: State) -> State
 }
 
 // LET ( name = VEC constant | name {, name} = expression {, expression} ) [;]
-#[cycle(also_arg_bare_block_body_call_cases_cmd_expr_form_forms_give_index_init_item_lets_list_local_monad_nest_op_pass_pick_plain_redo_rest_run_set_step_tail_tails_term_test_till_unary_unit_valof_when_whole)]
+#[cycle(phrases)]
 fn local(s: &mut [u32], n: usize, levels: usize, r: State) -> State
     requires { Ready 0 s.old n r }
     ensures { Reading 4 (C.local (readers (within levels))) (Prepends encode_locals) s.old s.new n r result }
@@ -662,7 +661,7 @@ fn local(s: &mut [u32], n: usize, levels: usize, r: State) -> State
 }
 
 // What a local declaration gives its names, which begin at start.
-#[cycle(also_arg_bare_block_body_call_cases_cmd_expr_form_forms_give_index_init_item_lets_list_local_monad_nest_op_pass_pick_plain_redo_rest_run_set_step_tail_tails_term_test_till_unary_unit_valof_when_whole)]
+#[cycle(phrases)]
 fn init(s: &mut [u32], n: usize, levels: usize, start: usize, further: usize, r: State) -> State
     requires { Ready 5 s.old n r }
     ensures { TakesRoom 5 s.old s.new n r result × ((src : Source) → HoldsSymbols src n s.old → Passes r result
@@ -681,7 +680,7 @@ fn init(s: &mut [u32], n: usize, levels: usize, start: usize, further: usize, r:
 }
 
 // {, expression}, so many of them
-#[cycle(also_arg_bare_block_body_call_cases_cmd_expr_form_forms_give_index_init_item_lets_list_local_monad_nest_op_pass_pick_plain_redo_rest_run_set_step_tail_tails_term_test_till_unary_unit_valof_when_whole)]
+#[cycle(phrases)]
 fn rest(s: &mut [u32], n: usize, levels: usize, number: usize, r: State) -> State
     requires { Ready 0 s.old n r }
     ensures { Reading 0 (C.further (readers (within levels)) number) (Encodes encode_expressions) s.old s.new n r result }
@@ -697,7 +696,7 @@ fn rest(s: &mut [u32], n: usize, levels: usize, number: usize, r: State) -> Stat
 }
 
 // {, expression} := expression {, expression}, after the first expression, which begins at lo; as many right as left
-#[cycle(also_arg_bare_block_body_call_cases_cmd_expr_form_forms_give_index_init_item_lets_list_local_monad_nest_op_pass_pick_plain_redo_rest_run_set_step_tail_tails_term_test_till_unary_unit_valof_when_whole)]
+#[cycle(phrases)]
 fn set(s: &mut [u32], n: usize, levels: usize, lo: usize, r: State) -> State
     requires { Ready 0 s.old n r }
     ensures { LeavesRoom 0 s.old s.new n r result × ((src : Source) → HoldsSymbols src n s.old → Passes r result
@@ -715,7 +714,7 @@ fn set(s: &mut [u32], n: usize, levels: usize, lo: usize, r: State) -> State
 }
 
 // An assignment, or an expression that is a call.
-#[cycle(also_arg_bare_block_body_call_cases_cmd_expr_form_forms_give_index_init_item_lets_list_local_monad_nest_op_pass_pick_plain_redo_rest_run_set_step_tail_tails_term_test_till_unary_unit_valof_when_whole)]
+#[cycle(phrases)]
 fn bare(s: &mut [u32], n: usize, levels: usize, r: State) -> State
     requires { Ready 0 s.old n r }
     ensures { Reading 1 (C.assignment_or_call (readers (within levels))) (Encodes encode_unlabelled) s.old s.new n r result }

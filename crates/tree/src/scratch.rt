@@ -9,7 +9,7 @@ ghost use Rattle.tree.specs.Between.{CallHere, PlaceHere};
 
 use crate::kinds::{CALLED, NOTHING, SUFFIXED};
 
-#[derive(Drop)]
+#[derive(Clone, Copy)]
 pub(crate) enum State {
     // the position of the next symbol, and the next free entry
     Read(usize, usize),

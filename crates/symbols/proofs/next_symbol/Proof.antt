@@ -20,14 +20,12 @@ add-t17 c = let text = c.args.text.now in
     omega (arith, wrong-inside text c.loop-i.i c.loop-i-test.true read)
 
 add-i : tie.Need-overflow_add-i invariant-loop decreases-loop
-add-i c =
-    let text = c.args.text.now in
+add-i c = let text = c.args.text.now in
     let read = when-gap (element_at text c.loop-i.i) c.element_at-element.ensures c.in-Gap.is in
     omega (arith, gap-inside _ _ _ c.loop-i.invariant c.loop-i-test.true read)
 
 loop-less : tie.Need-loop-i-smaller invariant-loop decreases-loop
-loop-less c =
-    let text = c.args.text.now in
+loop-less c = let text = c.args.text.now in
     let read = when-gap (element_at text c.loop-i.i) c.element_at-element.ensures c.in-Gap.is in
     omega (arith, gap-inside _ _ _ c.loop-i.invariant c.loop-i-test.true read)
 

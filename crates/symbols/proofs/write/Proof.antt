@@ -7,14 +7,12 @@ put-requires c κs = let pre = c.requires in let h = rw c.if-semicolon.true at p
     (omega (arith, h), omega arith, omega arith, pre.3)
 
 put-requires-2 : tie.Need-put-requires-then-semicolon
-put-requires-2 c κs =
-    let args = c.args in let h = rw c.if-semicolon.true at c.requires.0 in
+put-requires-2 c κs = let args = c.args in let h = rw c.if-semicolon.true at c.requires.0 in
     let e = put-length args.scratch.now args.count 54 0 args.place (omega (arith, h)) c.put.ensures in
     (omega (arith, h, e), c.requires.1, c.requires.2, c.requires.3)
 
 returns : tie.Need-returns-then-semicolon
-returns c =
-    let one_more = c.if-semicolon.true in
+returns c = let one_more = c.if-semicolon.true in
     rw one_more (writes-two _ _ _ _ _ (rw one_more at c.requires.0) c.put.ensures c.put-then-semicolon.ensures)
 
 put-requires-3 : tie.Need-put-requires-2

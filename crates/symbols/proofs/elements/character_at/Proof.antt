@@ -13,12 +13,10 @@ add-t13 c = let args = c.args in
     omega (arith, fault-inside args.text.now args.at 39 1 (when-faulty _ c.quoted_at-constant.ensures c.in-Faulty.is))
 
 returns : tie.Need-returns-then-n-eq0
-returns c =
-    no-character _ c.args.at (when-closed _ c.quoted_at-constant.ensures c.in-Closed.is) c.if-n-eq0.true
+returns c = no-character _ c.args.at (when-closed _ c.quoted_at-constant.ensures c.in-Closed.is) c.if-n-eq0.true
 
 returns-2 : tie.Need-returns-else-n-eq0
-returns-2 c =
-    let constant = when-closed _ c.quoted_at-constant.ensures c.in-Closed.is in
+returns-2 c = let constant = when-closed _ c.quoted_at-constant.ensures c.in-Closed.is in
     rw c.wide.ensures.0 (a-character _ c.args.at constant c.if-n-eq0.false c.value_at-value.ensures)
 
 pub character_at_spec : {M : Type 1} → Rattle.symbols.proofs.elements.character_at.Statement.statement M

@@ -10,8 +10,7 @@ abbrev decreases-loop : tie.decreases-loop-i
 decreases-loop text at base n₀ i₀ n i = length text - i
 
 and-digit-requires : tie.Need-and_digit-n-requires invariant-loop decreases-loop
-and-digit-requires c κs =
-    let digit = digit-from _ _ (holds c.is_digit.ensures c.if-not-is_digit.false) in
+and-digit-requires c κs = let digit = digit-from _ _ (holds c.is_digit.ensures c.if-not-is_digit.false) in
     (c.requires.1, c.loop-i.invariant.small, digit, c.wide-c.ensures.1)
 
 pub digits_at_spec : {M : Type 1} → Rattle.symbols.proofs.elements.digits_at.Statement.statement M

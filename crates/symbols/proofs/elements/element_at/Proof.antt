@@ -11,12 +11,9 @@ element_at_spec = tie.close
     (λ c κs. search needs) (search needs) (λ c κs. search needs) (λ c κs. search needs)
     (λ c. c.word_at.ensures ∙ ap as_element (of-class _ _ c.class_of-class.ensures 1 c.in-1.is))
     (λ c. c.decimal_at.ensures ∙ ap as_element (of-class _ _ c.class_of-class.ensures 2 c.in-2.is))
-    (λ c.
-    past_first octal _ c.args.at c.octal_at.ensures ∙
-    ap as_element (of-class _ _ c.class_of-class.ensures 4 c.in-4.is)) (λ c.
-    past_first character _ c.args.at c.character_at.ensures ∙
-    ap as_element (of-class _ _ c.class_of-class.ensures 5 c.in-5.is)) (λ c.
-    past_first string _ c.args.at c.string_at.ensures ∙
+    (λ c. past_first octal _ c.args.at c.octal_at.ensures ∙
+    ap as_element (of-class _ _ c.class_of-class.ensures 4 c.in-4.is)) (λ c. past_first character _ c.args.at c.character_at.ensures ∙
+    ap as_element (of-class _ _ c.class_of-class.ensures 5 c.in-5.is)) (λ c. past_first string _ c.args.at c.string_at.ensures ∙
     ap as_element (of-class _ _ c.class_of-class.ensures 6 c.in-6.is))
     (λ c. c.sign_or_comment.ensures ∙ ap as_element (of-class _ _ c.class_of-class.ensures 7 c.in-7.is))
     (λ c. ap as_element (of-class _ _ c.class_of-class.ensures 8 c.in-8.is))

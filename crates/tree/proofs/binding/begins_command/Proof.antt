@@ -5,6 +5,6 @@ use Rattle.tree.proofs.binding.begins_command.Tie as tie
 
 pub begins_command_spec : {M : Type 1} → Rattle.tree.proofs.binding.begins_command.Statement.statement M
 unfolding member
-begins_command_spec = tie.close (tie.spec (λ c κs. tt) (λ c κs. tt) (λ c. arm command _ c.before.letter-of.ensures c.match.keys1)
-    (λ c. arm command _ c.before.letter-of.ensures c.match.keys2) (λ c. arm command _ c.before.letter-of.ensures c.match.keys3)
-    (λ c. c.begins-expression.ensures ∙ command-else _ c.before.before.letter-of.ensures c.before.match.rest))
+begins_command_spec = tie.close (tie.spec (λ c κs. tt) (λ c κs. tt) (λ c. arm command _ c.letter_of-letter.ensures c.in-103.is)
+    (λ c. arm command _ c.letter_of-letter.ensures c.in-120.is) (λ c. arm command _ c.letter_of-letter.ensures c.in-99.is)
+    (λ c. c.begins_expression.ensures ∙ command-else _ c.letter_of-letter.ensures c.in_default.in_default-own.rest))

@@ -4,5 +4,5 @@ use Rattle.tree.proofs.binding.is_suffix.Tie as tie
 
 pub is_suffix_spec : {M : Type 1} → Rattle.tree.proofs.binding.is_suffix.Statement.statement M
 unfolding member
-is_suffix_spec = tie.close (tie.spec (λ c κs. tt) (λ c. arm suffix _ c.before.letter-of.ensures c.match.keys1)
-    (λ c. arm suffix _ c.before.letter-of.ensures c.match.keys2) (λ c. none_of_lem suffix _ c.before.letter-of.ensures c.match.rest))
+is_suffix_spec = tie.close (tie.spec (λ c κs. tt) (λ c. arm suffix _ c.letter_of-letter.ensures c.in-40.is)
+    (λ c. arm suffix _ c.letter_of-letter.ensures c.in-33.is) (λ c. none_of_lem suffix _ c.letter_of-letter.ensures c.in_default.in_default-own.rest))

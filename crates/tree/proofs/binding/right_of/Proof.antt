@@ -4,5 +4,5 @@ use Rattle.tree.proofs.binding.right_of.Tie as tie
 
 pub right_of_spec : {M : Type 1} → Rattle.tree.proofs.binding.right_of.Statement.statement M
 unfolding right_of
-right_of_spec = tie.close (tie.spec (search needs) (λ c. (rw (eq-eqb _ _ c.if1.true) refl, omega arith))
-    (λ c. (rw (ne_eqb _ _ c.if1.false) refl, omega arith)))
+right_of_spec = tie.close (tie.spec (search needs) (λ c. (rw (eq-eqb _ _ c.if-binding-eq-SHIFT.true) refl, omega arith))
+    (λ c. (rw (ne_eqb _ _ c.if-binding-eq-SHIFT.false) refl, omega arith)))

@@ -9,27 +9,25 @@ use Rattle.tree.proofs.Lists.{Before}
 use Rattle.tree.proofs.Steps.{pair}
 use Rattle.tree.proofs.declarations.declarations.Tie as tie
 
-abbrev invariant-loop : tie.invariant-loop
+abbrev invariant-loop : tie.invariant-loop-turns
 invariant-loop s₀ n turns₀ a₀ s turns a =
     SoFar (Before encode_program) (many_up_to turns₀ [] is_declaration G.declared) (many_up_to turns [] is_declaration G.declared) s₀ s n a₀ a
 
-abbrev decreases-loop : tie.decreases-loop
+abbrev decreases-loop : tie.decreases-loop-turns
 decreases-loop s₀ n turns₀ a₀ s turns a = turns
 
 pub declarations_spec : {M : Type 1} → Rattle.tree.proofs.declarations.declarations.Statement.statement M
-declarations_spec = tie.close (tie.spec invariant-loop decreases-loop (λ c. so-begins c.before.requires before-first) (λ c κs. omega arith) (λ _ _. tt)
-    (λ c κs. pair (omega arith) (declaration-positive _ c.before.before.is-declaration.ensures c.before.if1.true)) (search needs)
+declarations_spec = tie.close (tie.spec invariant-loop decreases-loop (λ c. so-begins c.requires before-first) (λ c κs. omega arith) (λ _ _. tt)
+    (λ c κs. pair (omega arith) (declaration-positive _ c.is_declaration.ensures c.if-is_declaration.true)) (search needs)
     (λ c. omega arith)
     -- loop-again
-    (λ c. let declared = c.before.before in let if1 = declared.before.before in let is-declaration = if1.before in
-    let kind-here = is-declaration.before in let in-loop = kind-here.before.before.before in many-turns _ _ _ _ before-next in-loop.loop.invariant
-    kind-here.kind-here.ensures (sym is-declaration.is-declaration.ensures ∙ if1.if1.true) (
-      declared.declared.ensures.0,
-      λ src l k. declared.declared.ensures.1 src l k (sym is-declaration.is-declaration.ensures ∙ if1.if1.true),
-    ) declared.declared.auto.0 (omega
+    (λ c. many-turns _ _ _ _ before-next c.loop-turns.invariant
+    c.kind_here-kind.ensures (sym c.is_declaration.ensures ∙ c.if-is_declaration.true) (
+      c.declared-a.ensures.0,
+      λ src l k. c.declared-a.ensures.1 src l k (sym c.is_declaration.ensures ∙ c.if-is_declaration.true),
+    ) c.declared-a.auto.s (omega
     arith)) (search needs)
     -- returns
-    (λ c. let is-declaration = c.before in let kind-here = is-declaration.before in let in-loop = kind-here.before.before.before in
-    many-ends _ _ _ _ before_last (wordless no-program-words) refl in-loop.loop.invariant kind-here.kind-here.ensures
-    (sym is-declaration.is-declaration.ensures ∙ c.if1.false))
-    (search needs) (λ c. many-spent _ _ _ _ before_last (wordless no-program-words) refl c.before.loop.invariant (omega arith)))
+    (λ c. many-ends _ _ _ _ before_last (wordless no-program-words) refl c.loop-turns.invariant c.kind_here-kind.ensures
+    (sym c.is_declaration.ensures ∙ c.if-is_declaration.false))
+    (search needs) (λ c. many-spent _ _ _ _ before_last (wordless no-program-words) refl c.loop-turns.invariant (omega arith)))

@@ -6,10 +6,9 @@ use Rattle.tree.proofs.Rooms.{left, room-left, ◌plus◌}
 use Rattle.tree.proofs.declarations.functions.Tie as tie
 
 returns : tie.Need-returns
-returns c = let after-further-functions = c.before.before in let after-function = after-further-functions.before.before.before.before in
-    pair (room-left (left after-function.function.ensures.0 plus after-further-functions.further-functions.ensures.0) refl)
-    (λ src l. functions-read src l.count (after-function.function.ensures.1 src l)
-    (after-further-functions.further-functions.ensures.1 src (lies-still l after-function.function.ensures.0.kept)))
+returns c = pair (room-left (left c.function-first.ensures.0 plus c.further_functions.ensures.0) refl)
+    (λ src l. functions-read src l.count (c.function-first.ensures.1 src l)
+    (c.further_functions.ensures.1 src (lies-still l c.function-first.ensures.0.kept)))
 
 pub functions_spec : {M : Type 1} → Rattle.tree.proofs.declarations.functions.Statement.statement M
 functions_spec = tie.close (tie.spec (search needs) (search needs) (search needs) returns)

@@ -10,21 +10,19 @@ use Rattle.tree.proofs.Lists.{Before}
 use Rattle.tree.proofs.Choices.{at-any}
 use Rattle.tree.proofs.declarations.further_functions.Tie as tie
 
-abbrev invariant-loop : tie.invariant-loop
+abbrev invariant-loop : tie.invariant-loop-turns
 invariant-loop s₀ n turns₀ a₀ s turns a = SoFar (Before encode_functions) (many_up_to turns₀ [] (λ kind. eqb kind K.AND) G.and_function)
     (many_up_to turns [] (λ kind. eqb kind K.AND) G.and_function) s₀ s n a₀ a
 
-abbrev decreases-loop : tie.decreases-loop
+abbrev decreases-loop : tie.decreases-loop-turns
 decreases-loop s₀ n turns₀ a₀ s turns a = turns
 
 pub further_functions_spec : {M : Type 1} → Rattle.tree.proofs.declarations.further_functions.Statement.statement M
-further_functions_spec = tie.close (tie.spec invariant-loop decreases-loop (λ c. so-begins c.before.requires before-first) (λ c κs. omega arith) (search needs)
-    (λ c. many-ends _ _ _ _ before_last (wordless no-function-words) refl c.before.before.before.before.loop.invariant
-    c.before.kind-here.ensures (ne_eqb _ _ c.if1.true))
-    (λ c κs. omega arith) (λ c κs. ready-leaves c.before.expect.ensures.0 refl refl (omega arith)) (search needs) (λ c. omega arith)
+further_functions_spec = tie.close (tie.spec invariant-loop decreases-loop (λ c. so-begins c.requires before-first) (λ c κs. omega arith) (search needs)
+    (λ c. many-ends _ _ _ _ before_last (wordless no-function-words) refl c.loop-turns.invariant
+    c.kind_here-kind.ensures (ne_eqb _ _ c.if-kind-ne-AND.true))
+    (λ c κs. omega arith) (λ c κs. ready-leaves c.expect-word.ensures.0 refl refl (omega arith)) (search needs) (λ c. omega arith)
     -- loop-again
-    (λ c. let function = c.before.before in let expect = function.before.before in let if1 = expect.before.before in
-    let kind-here = if1.before in let in-loop = kind-here.before.before.before in
-    many-turns _ _ _ _ before-next in-loop.loop.invariant kind-here.kind-here.ensures (eq-eqb _ _ if1.if1.false)
-    (at-any (and-function-reads expect.expect.ensures function.function.ensures)) function.function.auto.0 (omega arith))
-    (search needs) (λ c. many-spent _ _ _ _ before_last (wordless no-function-words) refl c.before.loop.invariant (omega arith)))
+    (λ c. many-turns _ _ _ _ before-next c.loop-turns.invariant c.kind_here-kind.ensures (eq-eqb _ _ c.if-kind-ne-AND.false)
+    (at-any (and-function-reads c.expect-word.ensures c.function-a.ensures)) c.function-a.auto.s (omega arith))
+    (search needs) (λ c. many-spent _ _ _ _ before_last (wordless no-function-words) refl c.loop-turns.invariant (omega arith)))

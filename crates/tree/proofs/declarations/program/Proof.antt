@@ -8,12 +8,10 @@ use Rattle.tree.proofs.declarations.program.Tie as tie
 pub program_spec : {M : Type 1} → Rattle.tree.proofs.declarations.program.Statement.statement M
 program_spec = tie.close (tie.spec (search needs) (search needs) (search needs)
     -- returns
-    (λ c. let kind-here = c.before in let declarations = kind-here.before.before.before.before in
-    pair declarations.declarations.ensures.0
-    (λ src l. program-read src l.count (kind-here.kind-here.ensures src (lies-still l declarations.declarations.ensures.0.kept))
-    (declarations.declarations.ensures.1 src l) c.if1.true)) (search needs) (search needs)
+    (λ c. pair c.declarations-a.ensures.0
+    (λ src l. program-read src l.count (c.kind_here-kind.ensures src (lies-still l c.declarations-a.ensures.0.kept))
+    (c.declarations-a.ensures.1 src l) c.if-kind-eq-NOTHING.true)) (search needs) (search needs)
     -- returns-2
-    (λ c. let if1 = c.before.before in let kind-here = if1.before in let declarations = kind-here.before.before.before.before in
-    pair (room-left (left declarations.declarations.ensures.0 plus c.refuse.ensures.0) refl)
-    (λ src l. program-refused src l.count (kind-here.kind-here.ensures src (lies-still l declarations.declarations.ensures.0.kept))
-    (declarations.declarations.ensures.1 src l) if1.if1.false c.refuse.ensures.1)))
+    (λ c. pair (room-left (left c.declarations-a.ensures.0 plus c.refuse.ensures.0) refl)
+    (λ src l. program-refused src l.count (c.kind_here-kind.ensures src (lies-still l c.declarations-a.ensures.0.kept))
+    (c.declarations-a.ensures.1 src l) c.if-kind-eq-NOTHING.false c.refuse.ensures.1)))

@@ -4,6 +4,6 @@ use Rattle.tree.proofs.parts.a_name.Tie as tie
 
 pub a_name_spec : {M : Type 1} → Rattle.tree.proofs.parts.a_name.Statement.statement M
 a_name_spec = tie.close (tie.spec (search needs) (search needs) (search needs) (λ c. (
-  c.before.before.leaf.ensures.0,
-  λ src l. a-name-read l (c.before.before.before.before.value-here.ensures src l) (c.before.before.leaf.ensures.1 src l),
+  c.leaf.ensures.0,
+  λ src l. a-name-read l (c.value_here-value.ensures src l) (c.leaf.ensures.1 src l),
 )))

@@ -9,38 +9,24 @@ use Rattle.tree.proofs.Wholes.{leaves, ◌from◌, ◌with◌, ◌adding◌, ◌
 pub case_label_spec : {M : Type 1} → Rattle.tree.proofs.parts.case_label.Statement.statement M
 case_label_spec = tie.close (tie.spec (search needs) (search needs) (search needs) (search needs) (search needs)
     -- constant-requires
-    (λ c κs. let begin-item = c.before.before.before.before.before in let expect = begin-item.before.before in
-    let start = expect.before.before.before.before.before.before.before in
-    ready-takes begin-item.begin-item.ensures.0 begin-item.begin-item.auto.0
-    (ready-leaves expect.expect.ensures.0 refl refl start.requires))
+    (λ c κs. ready-takes c.begin_item-begun.ensures.0 c.begin_item-begun.auto.s
+    (ready-leaves c.expect-word.ensures.0 refl refl c.requires))
     -- expect-requires-2
-    (λ c κs. let constant = c.before.before.before in let begin-item = constant.before.before.before.before.before.before in
-    let expect = begin-item.before.before in let start = expect.before.before.before.before.before.before.before in
-    pair (ready-leaves constant.constant.ensures.0 constant.constant.auto.0 refl
-    (ready-takes begin-item.begin-item.ensures.0 begin-item.begin-item.auto.0
-    (ready-leaves expect.expect.ensures.0 refl refl start.requires))) (omega arith))
+    (λ c κs. pair (ready-leaves c.constant-value.ensures.0 c.constant-value.auto.s refl
+    (ready-takes c.begin_item-begun.ensures.0 c.begin_item-begun.auto.s
+    (ready-leaves c.expect-word.ensures.0 refl refl c.requires))) (omega arith))
     -- node-requires
-    (λ c κs. let expect2 = c.before in let constant = expect2.before.before.before.before in
-    let begin-item = constant.before.before.before.before.before.before in let expect = begin-item.before.before in
-    let start = expect.before.before.before.before.before.before.before in
-    ready-leaves expect2.expect2.ensures.0 refl refl (ready-leaves constant.constant.ensures.0 constant.constant.auto.0 refl
-    (ready-takes begin-item.begin-item.ensures.0 begin-item.begin-item.auto.0
-    (ready-leaves expect.expect.ensures.0 refl refl start.requires))))
+    (λ c κs. ready-leaves c.expect-colon.ensures.0 refl refl (ready-leaves c.constant-value.ensures.0 c.constant-value.auto.s refl
+    (ready-takes c.begin_item-begun.ensures.0 c.begin_item-begun.auto.s
+    (ready-leaves c.expect-word.ensures.0 refl refl c.requires))))
     -- set-size-requires
-    (λ c κs. let node = c.before.before.before in let expect2 = node.before.before in let constant = expect2.before.before.before.before in
-    let begin-item = constant.before.before.before.before.before.before in let expect = begin-item.before.before in
-    let free_of = expect.before.before.before.before in let start = free_of.before.before.before in
-    pair (ready-takes node.node.ensures.0 node.node.auto.0 (ready-leaves expect2.expect2.ensures.0 refl refl
-    (ready-leaves constant.constant.ensures.0 constant.constant.auto.0 refl
-    (ready-takes begin-item.begin-item.ensures.0 begin-item.begin-item.auto.0
-    (ready-leaves expect.expect.ensures.0 refl refl start.requires))))) (item-low free_of.free_of.ensures start.requires)) (search needs)
+    (λ c κs. pair (ready-takes c.node-a.ensures.0 c.node-a.auto.s (ready-leaves c.expect-colon.ensures.0 refl refl
+    (ready-leaves c.constant-value.ensures.0 c.constant-value.auto.s refl
+    (ready-takes c.begin_item-begun.ensures.0 c.begin_item-begun.auto.s
+    (ready-leaves c.expect-word.ensures.0 refl refl c.requires))))) (item-low c.free_of-lo.ensures c.requires)) (search needs)
     -- returns
-    (λ c. let set-size = c.before.before in let node = set-size.before.before.before.before in let expect2 = node.before.before in
-    let constant = expect2.before.before.before.before in let free-of2 = constant.before.before in
-    let begin-item = free-of2.before.before.before.before in let expect = begin-item.before.before in let place_here = expect.before.before in
-    let free_of = place_here.before.before in let start = free_of.before.before.before in
-    leaves ((λ src l a b c d f g k. label-case src _ k refl
-    (case-read l _ _ free_of.free_of.ensures (place_here.place_here.ensures src l) (low-past start.requires expect.expect.ensures.0)
-    (freed _ free-of2.free-of2.ensures begin-item.begin-item.auto.0) a b c d f g)) from expect.expect.ensures adding
-    begin-item.begin-item.ensures with constant.constant.ensures with expect2.expect2.ensures adding node.node.ensures setting
-    set-size.set-size.ensures) refl))
+    (λ c. leaves ((λ src l a b e d f g k. label-case src _ k refl
+    (case-read l _ _ c.free_of-lo.ensures (c.place_here-place.ensures src l) (low-past c.requires c.expect-word.ensures.0)
+    (freed _ c.free_of-start.ensures c.begin_item-begun.auto.s) a b e d f g)) from c.expect-word.ensures adding
+    c.begin_item-begun.ensures with c.constant-value.ensures with c.expect-colon.ensures adding c.node-a.ensures setting
+    c.set_size.ensures) refl))

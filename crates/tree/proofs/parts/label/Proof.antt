@@ -3,13 +3,12 @@ use Rattle.tree.specs.Reads.{KindHere}
 use Rattle.tree.proofs.Steps.{pair}
 use Rattle.tree.proofs.parts.label.Tie as tie
 
-returns : tie.Need-returns
-returns c = let after-case-label = c.before.before in let after-if1 = after-case-label.before.before in let start = after-if1.before.before in
-    pair after-case-label.case-label.ensures.0
-    (λ src l k. after-case-label.case-label.ensures.1 src l (subst (λ (x : ℕ). KindHere src start.args.r x) after-if1.if1.true k))
+returns : tie.Need-returns-then-kind-eq-CASE
+returns c = pair c.case_label.ensures.0
+    (λ src l k. c.case_label.ensures.1 src l (subst (λ (x : ℕ). KindHere src c.args.r x) c.if-kind-eq-CASE.true k))
 
 pub label_spec : {M : Type 1} → Rattle.tree.proofs.parts.label.Statement.statement M
 label_spec = tie.close (tie.spec (search needs) (search needs) (search needs) returns (search needs) (λ c. (
-  c.before.before.default-label.ensures.0,
-  λ src l k. c.before.before.default-label.ensures.1 src l _ k c.before.before.before.before.if1.false,
+  c.default_label.ensures.0,
+  λ src l k. c.default_label.ensures.1 src l _ k c.if-kind-eq-CASE.false,
 )))

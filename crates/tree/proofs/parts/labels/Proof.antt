@@ -9,24 +9,21 @@ use Rattle.tree.proofs.Loops.{SoFar, before-first, before-next, before_last, wor
 use Rattle.tree.proofs.Lists.{Before}
 use Rattle.tree.proofs.parts.labels.Tie as tie
 
-abbrev invariant-loop : tie.invariant-loop
+abbrev invariant-loop : tie.invariant-loop-turns
 invariant-loop s₀ n levels turns₀ a₀ s turns a =
     SoFar (Before encode_labels) (many_up_to turns₀ [] is_label (C.label (within levels))) (many_up_to turns [] is_label (C.label (within levels))) s₀ s n a₀
     a
 
-abbrev decreases-loop : tie.decreases-loop
+abbrev decreases-loop : tie.decreases-loop-turns
 decreases-loop s₀ n levels turns₀ a₀ s turns a = turns
 
 pub labels_spec : {M : Type 1} → Rattle.tree.proofs.parts.labels.Statement.statement M
-labels_spec = tie.close (tie.spec invariant-loop decreases-loop (λ _ _. tt) (λ c. so-begins c.before.before.requires before-first) (λ c κs. omega arith) (λ _ _. tt)
+labels_spec = tie.close (tie.spec invariant-loop decreases-loop (λ _ _. tt) (λ c. so-begins c.requires before-first) (λ c κs. omega arith) (λ _ _. tt)
     (λ c κs. omega arith) (search needs) (λ c. omega arith)
     -- loop-again
-    (λ c. let label = c.before.before in let if1 = label.before.before in let is-label = if1.before in let kind-here = is-label.before in
-    let in-loop = kind-here.before.before.before in
-    many-turns _ _ _ _ before-next in-loop.loop.invariant kind-here.kind-here.ensures (sym is-label.is-label.ensures ∙ if1.if1.true)
-    label.label.ensures label.label.auto.0 (omega arith)) (search needs)
+    (λ c. many-turns _ _ _ _ before-next c.loop-turns.invariant c.kind_here-kind.ensures (sym c.is_label.ensures ∙ c.if-is_label.true)
+    c.label-a.ensures c.label-a.auto.s (omega arith)) (search needs)
     -- returns
-    (λ c. let is-label = c.before in let kind-here = is-label.before in let in-loop = kind-here.before.before.before in
-    let minus = in-loop.before in many-ends _ _ _ _ before_last (wordless no-label-words) minus.minus.ensures in-loop.loop.invariant
-    kind-here.kind-here.ensures (sym is-label.is-label.ensures ∙ c.if1.false)) (search needs)
-    (λ c. many-spent _ _ _ _ before_last (wordless no-label-words) c.before.before.minus.ensures c.before.loop.invariant (omega arith)))
+    (λ c. many-ends _ _ _ _ before_last (wordless no-label-words) c.minus-turns.ensures c.loop-turns.invariant
+    c.kind_here-kind.ensures (sym c.is_label.ensures ∙ c.if-is_label.false)) (search needs)
+    (λ c. many-spent _ _ _ _ before_last (wordless no-label-words) c.minus-turns.ensures c.loop-turns.invariant (omega arith)))

@@ -5,12 +5,9 @@ use Rattle.tree.proofs.Rooms.{left, room-left, ◌less◌}
 use Rattle.tree.proofs.parts.leaf.Tie as tie
 
 returns : tie.Need-returns
-returns c =
-    let after-node = c.before.before in let after-free-of = after-node.before.before in let after-expect = after-free-of.before.before in
-    let after-place-here = after-expect.before.before in let start = after-place-here.before.before.before in
-    pair (room-left (left after-expect.expect.ensures.0 less after-node.node.ensures.0) refl)
-    (λ src l. leaf-read l _ (after-place-here.place_here.ensures src l) start.requires.1 (after-expect.expect.ensures.1 src l)
-    after-free-of.free_of.ensures after-node.node.ensures.1)
+returns c = pair (room-left (left c.expect-a.ensures.0 less c.node.ensures.0) refl)
+    (λ src l. leaf-read l _ (c.place_here-place.ensures src l) c.requires.1 (c.expect-a.ensures.1 src l)
+    c.free_of-lo.ensures c.node.ensures.1)
 
 pub leaf_spec : {M : Type 1} → Rattle.tree.proofs.parts.leaf.Statement.statement M
 leaf_spec = tie.close (tie.spec (search needs) (search needs) (search needs) (search needs) (search needs) returns)

@@ -5,10 +5,8 @@ use Rattle.tree.proofs.Rooms.{left, room-left, ◌less◌}
 use Rattle.tree.proofs.parts.negated.Tie as tie
 
 returns : tie.Need-returns
-returns c =
-    let after-node = c.before.before in let after-free-of = after-node.before.before in let after-expect = after-free-of.before.before in
-    pair (room-left (left after-expect.expect.ensures.0 less after-node.node.ensures.0) refl)
-    (λ src l. negated-read _ (after-expect.expect.ensures.1 src l) after-free-of.free_of.ensures after-node.node.ensures.1)
+returns c = pair (room-left (left c.expect-a.ensures.0 less c.node.ensures.0) refl)
+    (λ src l. negated-read _ (c.expect-a.ensures.1 src l) c.free_of-lo.ensures c.node.ensures.1)
 
 pub negated_spec : {M : Type 1} → Rattle.tree.proofs.parts.negated.Statement.statement M
 negated_spec = tie.close (tie.spec (search needs) (search needs) (search needs) (search needs) returns)

@@ -5,10 +5,8 @@ use Rattle.tree.proofs.Rooms.{left, room-taken, ◌less◌}
 use Rattle.tree.proofs.parts.negated_name.Tie as tie
 
 returns : tie.Need-returns
-returns c = let after-node = c.before.before in let after-leaf = after-node.before.before.before.before in
-    let after-free-of = after-leaf.before.before in
-    pair (room-taken (left after-leaf.leaf.ensures.0 less after-node.node.ensures.0) refl)
-    (λ src l. negated-name-read _ after-free-of.free_of.ensures (after-leaf.leaf.ensures.1 src l) after-node.node.ensures.1)
+returns c = pair (room-taken (left c.leaf-name.ensures.0 less c.node.ensures.0) refl)
+    (λ src l. negated-name-read _ c.free_of-lo.ensures (c.leaf-name.ensures.1 src l) c.node.ensures.1)
 
 pub negated_name_spec : {M : Type 1} → Rattle.tree.proofs.parts.negated_name.Statement.statement M
 negated_name_spec = tie.close (tie.spec (search needs) (search needs) (search needs) (search needs) returns)

@@ -4,25 +4,17 @@ use Rattle.tree.proofs.parts.negative.Tie as tie
 
 pub negative_spec : {M : Type 1} → Rattle.tree.proofs.parts.negative.Statement.statement M
 negative_spec =
-    tie.close (tie.spec (search needs) (search needs) (λ c. negative-shut _ c.before.before.if1.true c.refuse.ensures) (search needs)
+    tie.close (tie.spec (search needs) (search needs) (λ c. negative-shut _ c.if-levels-eq0.true c.refuse.ensures) (search needs)
     (search needs) (search needs) (search needs) (search needs) (search needs) (search needs) (search needs) (search needs)
-    (λ c. let after-match = c.before.before.before.before in let after-kind-here = after-match.before.before.before in
-    let after-place-here = after-kind-here.before.before.before.before in
-    negative-number _ after-place-here.place_here.ensures after-place-here.before.before.if1.false
-    after-kind-here.before.before.expect.ensures after-kind-here.kind-here.ensures after-match.before.value-here.ensures
-    after-match.match.keys1 c.before.before.negated.ensures) (search needs)
-    (λ c. let after-match = c.before.before.before.before in let after-kind-here = after-match.before.before.before in
-    let after-place-here = after-kind-here.before.before.before.before in
-    negative-true _ after-place-here.place_here.ensures after-place-here.before.before.if1.false
-    after-kind-here.before.before.expect.ensures after-kind-here.kind-here.ensures after-match.before.value-here.ensures
-    after-match.match.keys2 c.before.before.negated2.ensures) (search needs)
-    (λ c. let after-match = c.before.before.before.before in let after-kind-here = after-match.before.before.before in
-    let after-place-here = after-kind-here.before.before.before.before in
-    negative-false _ after-place-here.place_here.ensures after-place-here.before.before.if1.false
-    after-kind-here.before.before.expect.ensures after-kind-here.kind-here.ensures after-match.before.value-here.ensures
-    after-match.match.keys3 c.before.before.negated3.ensures) (search needs)
-    (λ c. let after-match = c.before.before.before.before in let after-kind-here = after-match.before.before.before in
-    let after-place-here = after-kind-here.before.before.before.before in
-    negative-name _ after-place-here.place_here.ensures after-place-here.before.before.if1.false
-    after-kind-here.before.before.expect.ensures after-kind-here.kind-here.ensures after-match.before.value-here.ensures
-    after-match.match.rest c.before.before.negated-name.ensures))
+    (λ c. negative-number _ c.place_here-place.ensures c.if-levels-eq0.false
+    c.expect-minus.ensures c.kind_here-kind.ensures c.value_here-value.ensures
+    c.in-60.is c.negated.ensures) (search needs)
+    (λ c. negative-true _ c.place_here-place.ensures c.if-levels-eq0.false
+    c.expect-minus.ensures c.kind_here-kind.ensures c.value_here-value.ensures
+    c.in-9.is c.negated-in-9.ensures) (search needs)
+    (λ c. negative-false _ c.place_here-place.ensures c.if-levels-eq0.false
+    c.expect-minus.ensures c.kind_here-kind.ensures c.value_here-value.ensures
+    c.in-10.is c.negated-in-10.ensures) (search needs)
+    (λ c. negative-name _ c.place_here-place.ensures c.if-levels-eq0.false
+    c.expect-minus.ensures c.kind_here-kind.ensures c.value_here-value.ensures
+    c.in_default.in_default-own.rest c.negated_name.ensures))

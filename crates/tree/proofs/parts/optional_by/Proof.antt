@@ -4,14 +4,11 @@ use Rattle.tree.proofs.Rooms.{leaves_all, left, room-left, ◌plus◌}
 use Rattle.tree.proofs.Steps.{pair}
 use Rattle.tree.proofs.parts.optional_by.Tie as tie
 
-returns : tie.Need-returns
-returns c =
-    let after-constant = c.before.before in let after-expect = after-constant.before.before in let after-if1 = after-expect.before.before in
-    let after-kind-here = after-if1.before in
-    pair (room-left (left after-expect.expect.ensures.0 plus after-constant.constant.ensures.0) refl)
-    (λ src l. by_read src _ (after-kind-here.kind-here.ensures src l) after-if1.if1.true (after-expect.expect.ensures.1 src l)
-    (after-constant.constant.ensures.1 src l))
+returns : tie.Need-returns-then-kind-eq-BY
+returns c = pair (room-left (left c.expect-word.ensures.0 plus c.constant.ensures.0) refl)
+    (λ src l. by_read src _ (c.kind_here-kind.ensures src l) c.if-kind-eq-BY.true (c.expect-word.ensures.1 src l)
+    (c.constant.ensures.1 src l))
 
 pub optional_by_spec : {M : Type 1} → Rattle.tree.proofs.parts.optional_by.Statement.statement M
 optional_by_spec = tie.close (tie.spec (search needs) (search needs) (search needs) (search needs) returns (search needs)
-    (λ c. (leaves_all c.before.before.before.before.requires, λ src l. no-by src _ (c.before.kind-here.ensures src l) c.if1.false)))
+    (λ c. (leaves_all c.requires, λ src l. no-by src _ (c.kind_here-kind.ensures src l) c.if-kind-eq-BY.false)))

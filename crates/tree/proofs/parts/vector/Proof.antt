@@ -8,17 +8,12 @@ use Rattle.tree.proofs.Wholes.{leaves, ◌from◌, ◌with◌, ◌adding◌}
 pub vector_spec : {M : Type 1} → Rattle.tree.proofs.parts.vector.Statement.statement M
 vector_spec = tie.close (tie.spec (search needs) (search needs) (search needs) (search needs)
     -- cast-node
-    (λ c. let minus = c.before.before.before.before.before.before.before in let free_of = minus.before in
-    let start = free_of.before.before.before in let small = size_small _ minus.minus.ensures free_of.free_of.ensures start.requires in
+    (λ c. let small = size_small _ c.minus-size.ensures c.free_of.ensures c.requires in
     omega arith)
     -- node-requires
-    (λ c κs. let constant = c.before.before.before in let expect = constant.before.before in
-    let start = expect.before.before.before.before.before.before in
-    ready-leaves constant.constant.ensures.0 constant.constant.auto.0 refl
-    (ready-leaves expect.expect.ensures.0 refl refl start.requires)) (search needs)
+    (λ c κs. ready-leaves c.constant-length.ensures.0 c.constant-length.auto.s refl
+    (ready-leaves c.expect-word.ensures.0 refl refl c.requires)) (search needs)
     -- returns
-    (λ c. let node = c.before.before in let constant = node.before.before.before.before in let expect = constant.before.before in
-    let minus = expect.before.before in let free_of = minus.before in
-    leaves ((λ src l a b d. pair (goes_on_lem a then goes_on_lem b then adds_on d)
-    (λ name q. vector-read src _ _ name _ q (measured _ _ minus.minus.ensures free_of.free_of.ensures refl) a b d)) from
-    expect.expect.ensures with constant.constant.ensures adding node.node.ensures) refl))
+    (λ c. leaves ((λ src l a b d. pair (goes_on_lem a then goes_on_lem b then adds_on d)
+    (λ name q. vector-read src _ _ name _ q (measured _ _ c.minus-size.ensures c.free_of.ensures refl) a b d)) from
+    c.expect-word.ensures with c.constant-length.ensures adding c.node.ensures) refl))

@@ -4,5 +4,5 @@ use Rattle.tree.proofs.scratch.optional.Tie as tie
 
 pub optional_spec : {M : Type 1} → Rattle.tree.proofs.scratch.optional.Statement.statement M
 optional_spec = tie.close (tie.spec (search needs) (search needs)
-    (λ c. optional-here _ c.before.before.kind-here.ensures c.before.if1.true c.expect.ensures)
-    (λ c. optional-not _ c.before.kind-here.ensures c.if1.false c.before.before.before.requires.0))
+    (λ c. optional-here _ c.kind_here-here.ensures c.if-here-kind.true c.expect.ensures)
+    (λ c. optional-not _ c.kind_here-here.ensures c.if-here-kind.false c.requires.0))

@@ -6,5 +6,5 @@ use Rattle.tree.proofs.scratch.place_here.Tie as tie
 pub place_here_spec : {M : Type 1} → Rattle.tree.proofs.scratch.place_here.Statement.statement M
 place_here_spec = tie.close (tie.spec (search needs) (search needs) (search needs) (search needs) (search needs) (search needs)
     (λ c. λ src l. record {
-      here = λ at free e _. entry_here (place_at src) c.before.before.before.r.given.1 (l.places _ c.before.if1.true) at free e;
+      here = λ at free e _. entry_here (place_at src) c.in-Read.is (l.places _ c.if-at-n.true) at free e;
     }) (λ c. λ src l. search here-past) (λ c. λ src l. search here-refused))

@@ -4,4 +4,4 @@ use Rattle.tree.proofs.scratch.suffixed_kind.Tie as tie
 
 pub suffixed_kind_spec : {M : Type 1} → Rattle.tree.proofs.scratch.suffixed_kind.Statement.statement M
 unfolding suffixed_kind
-suffixed_kind_spec = tie.close (tie.spec (λ c. rw c.if1.true refl) (λ c. rw c.if1.false refl))
+suffixed_kind_spec = tie.close (tie.spec (λ c. rw c.if-call.true refl) (λ c. rw c.if-call.false refl))

@@ -3,7 +3,7 @@
 -- stand its operands, from 16 to 9; above it lists of expressions, 50 to 52, what commands are made of, 51 to 59, a command 55, and 60 and 61
 -- for what stands after labels.
 use Rattle.laws.proofs.Basics.{ℕ, ◌+◌, ◌*◌, ◌<◌, List, [], ◌∷◌}
-use mir.Syntax.{Name}
+use mir.Syntax.{Symbol}
 use borrow.Fn.Kind.{ParamKind, ResultKind}
 use borrow.Fn.Kinds.{In, Out}
 use borrow.Fn.PlainCycle.{Measures, is, falls, and}
@@ -20,9 +20,9 @@ pub record Member : Type 3 where
   pub measure : Measures 1 ps ℕ
   pub pre : In 1 ps
   pub post : Out 1 ps r
-  pub name : Name
+  pub name : Symbol
 
-abbrev member : (ps : List (ParamKind 1)) (r : ResultKind 1) → Measures 1 ps ℕ → In 1 ps → Out 1 ps r → Name → Member
+abbrev member : (ps : List (ParamKind 1)) (r : ResultKind 1) → Measures 1 ps ℕ → In 1 ps → Out 1 ps r → Symbol → Member
 member ps r measure pre post name = record { ps = ps; r = r; measure = measure; pre = pre; post = post; name = name }
 
 -- what it is given at a measure, and what it is for a caller at one
@@ -111,8 +111,8 @@ close-item = callee s.close_item.Kinds.ps s.close_item.Kinds.r s.close_item.Read
 abbrev pub expect : Callee
 expect = callee s.expect.Kinds.ps s.expect.Kinds.r s.expect.Reads.Asked s.expect.Reads.Learnt "tree::scratch::expect"
 
-abbrev pub free_of : Callee
-free_of = callee s.free_of.Kinds.ps s.free_of.Kinds.r s.free_of.Reads.Asked s.free_of.Reads.Learnt "tree::scratch::free_of"
+abbrev pub free-of : Callee
+free-of = callee s.free_of.Kinds.ps s.free_of.Kinds.r s.free_of.Reads.Asked s.free_of.Reads.Learnt "tree::scratch::free_of"
 
 abbrev pub is_call : Callee
 is_call = callee s.is_call.Kinds.ps s.is_call.Kinds.r s.is_call.Reads.Asked s.is_call.Reads.Learnt "tree::scratch::is_call"
@@ -132,8 +132,8 @@ optional = callee s.optional.Kinds.ps s.optional.Kinds.r s.optional.Reads.Asked 
 abbrev pub place_here : Callee
 place_here = callee s.place_here.Kinds.ps s.place_here.Kinds.r s.place_here.Reads.Asked s.place_here.Reads.Learnt "tree::scratch::place_here"
 
-abbrev pub place-of : Callee
-place-of = callee s.place_of.Kinds.ps s.place_of.Kinds.r s.place_of.Reads.Asked s.place_of.Reads.Learnt "tree::scratch::place_of"
+abbrev pub place_of : Callee
+place_of = callee s.place_of.Kinds.ps s.place_of.Kinds.r s.place_of.Reads.Asked s.place_of.Reads.Learnt "tree::scratch::place_of"
 
 abbrev pub refuse : Callee
 refuse = callee s.refuse.Kinds.ps s.refuse.Kinds.r s.refuse.Reads.Asked s.refuse.Reads.Learnt "tree::scratch::refuse"

@@ -4,8 +4,8 @@ mod Chains
 mod Terms
 mod Forms
 mod Blocks
-use Rattle.tree.proofs.phrases.+also_arg_bare_block_body_call_cases_cmd_expr_form_forms_give_index_init_item_lets_list_local_monad_nest_op_pass_pick_plain_redo_rest_run_set_step_tail_tails_term_test_till_unary_unit_valof_when_whole.{statement}
-use Rattle.tree.proofs.phrases.+also_arg_bare_block_body_call_cases_cmd_expr_form_forms_give_index_init_item_lets_list_local_monad_nest_op_pass_pick_plain_redo_rest_run_set_step_tail_tails_term_test_till_unary_unit_valof_when_whole.Tie.{close}
+use Rattle.tree.proofs.phrases.+phrases.{statement}
+use Rattle.tree.proofs.phrases.+phrases.Tie.{close}
 use Ranks.{also-rank, arg-rank, bare-rank, block-rank, body-rank, call-rank, cases-rank, cmd-rank, expr_rank, form-rank, forms-rank, give-rank}
 use Ranks.{index-rank, init-rank, item-rank, unary-rank, lets-rank, list-rank, local-rank, monad-rank, nest-rank, op-rank, pass-rank, pick-rank}
 use Ranks.{plain-rank, redo-rank, rest-rank, run-rank, set-rank, step-rank, tail-rank, tails-rank, term-rank, test-rank, till-rank, unit-rank}
@@ -19,9 +19,9 @@ use Blocks.{block-cs, block-ok, init-cs, init-ok, item-cs, item_ok, lets-cs, let
 use Blocks.{step_ok, till-cs, till-ok}
 use Rattle.tree.proofs.Asked.{knowing}
 
-pub +also_arg_bare_block_body_call_cases_cmd_expr_form_forms_give_index_init_item_lets_list_local_monad_nest_op_pass_pick_plain_redo_rest_run_set_step_tail_tails_term_test_till_unary_unit_valof_when_whole_spec :
+pub +phrases_spec :
     {M : Type 1} → statement M
-+also_arg_bare_block_body_call_cases_cmd_expr_form_forms_give_index_init_item_lets_list_local_monad_nest_op_pass_pick_plain_redo_rest_run_set_step_tail_tails_term_test_till_unary_unit_valof_when_whole_spec =
++phrases_spec =
     close also-rank.measure arg-rank.measure bare-rank.measure block-rank.measure body-rank.measure call-rank.measure
     cases-rank.measure cmd-rank.measure expr_rank.measure form-rank.measure forms-rank.measure give-rank.measure
     index-rank.measure init-rank.measure item-rank.measure lets-rank.measure list-rank.measure
