@@ -1,5 +1,5 @@
 -- Arguments: each waits in the word of its height until the call uses them all.
-use Rattle.laws.proofs.Basics.{ℕ, zero, suc, ◌+◌, ◌<◌, ◌≤◌, ◌≡◌, refl, ◌∙◌, List, [], ◌∷◌, ◌++◌, append_assoc, append-nil, some, none, get_or, le_refl}
+use Rattle.laws.proofs.Basics.{ℕ, zero, suc, ◌+◌, ◌<◌, ◌≤◌, ◌≡◌, refl, ◌∙◌, List, [], ◌∷◌, ◌++◌, append_assoc, append-nil, some, get_or, le_refl}
 use Rattle.laws.proofs.Basics.{add-zero, arith}
 use Rattle.laws.proofs.Cases.{contradiction}
 use Rattle.language.specs.Resolved as R

@@ -2,7 +2,6 @@
 use Rattle.laws.proofs.Basics.{ℕ, suc, ◌+◌, ◌*◌, ◌≤◌, ◌≡◌, ap, List, [], ◌∷◌, ◌++◌, false, cond, length, ltb, arith, lt-ltb, le-ltb}
 use Rattle.laws.proofs.Cases.{by_order, contradiction}
 use Rattle.items.specs.Item as I
-use Rattle.language.specs.Tree as T
 use Rattle.language.specs.Resolved as R
 use Rattle.language.specs.Resolved.{Body, Fun, Start, nowhere, in_global}
 use Rattle.language.specs.Constants.{fault}

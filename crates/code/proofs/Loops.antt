@@ -8,7 +8,7 @@ use Rattle.machine.specs.Outcome as O
 use Rattle.machine.specs.Acts as M
 use Rattle.language.specs.Resolved as R
 use Rattle.language.specs.Resolved.{Expr, Cmd}
-use Rattle.language.specs.State.{gone, holds, State, Result, ok, bind, read_cell}
+use Rattle.language.specs.State.{gone, holds, State, Result, bind, read_cell}
 use Rattle.language.specs.Run.{Flow, normal, broke, looped, ended, gave, Loop, whiling, repeating, repeating_while, counting, Sem, executed, turned}
 use Rattle.language.specs.Run.{around, is_true, same}
 use Rattle.code.specs.Generate.{Exits, in_loop, expr_code, expr_labels, cmd_code, cmd_labels, limit_act}

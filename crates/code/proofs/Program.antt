@@ -1,6 +1,6 @@
 -- A whole program in an accepted image: its labels' addresses, its functions' code, its strings' words, its globals.
 use Rattle.laws.proofs.Basics.{ℕ, zero, suc, ◌+◌, ◌-◌, ◌*◌, ◌<◌, ◌≤◌, ◌≡◌, refl, sym, ap, ◌∙◌, List, [], ◌∷◌, ◌++◌, append_assoc, Bool, true, false}
-use Rattle.laws.proofs.Basics.{cond, some, none, length, get_or, set, replicate, length-append, length-set, List·getD-append, get_or-append-add, eqb, ltb}
+use Rattle.laws.proofs.Basics.{cond, some, length, get_or, set, replicate, length-append, length-set, List·getD-append, get_or-append-add, eqb, ltb}
 use Rattle.laws.proofs.Basics.{leb, add-zero, arith, eqb-true, ne_eqb, ltb-true, lt-ltb, le-ltb, le-leb, lt-leb, add-shift}
 use Rattle.laws.proofs.Cases.{by_cases, by_order, by_cond, contradiction}
 use Rattle.items.specs.Item as I

@@ -1,5 +1,5 @@
 -- What stands in memory while a program runs: its code, told by what each instruction's fetch gives, with start and end addresses.
-use Rattle.laws.proofs.Basics.{ℕ, suc, ◌+◌, ◌<◌, ◌≤◌, ◌≡◌, refl, List, [], ◌∷◌, ◌++◌, Bool, true, false, cond, none, length, get_or}
+use Rattle.laws.proofs.Basics.{ℕ, suc, ◌+◌, ◌<◌, ◌≤◌, ◌≡◌, refl, List, [], ◌∷◌, ◌++◌, Bool, true, false, cond, length, get_or}
 use Rattle.words.specs.Words.{add}
 use Rattle.items.specs.Item as I
 use Rattle.items.specs.Item.{number, address, Base, P, G, Item, label, instruction, constant, string, global}

@@ -4,7 +4,7 @@ use Rattle.text.specs.Quoted.{Quoted, closed, unclosed, faulty, characters_of, q
 use Rattle.text.proofs.Quotes.{is-closed, Writable}
 use Rattle.items.specs.Item as I
 use Rattle.language.specs.Kinds.{STRING}
-use Rattle.language.specs.Symbols.{Symbol, string}
+use Rattle.language.specs.Symbols.{Symbol}
 use Rattle.language.specs.Whole.{strings_among}
 use Rattle.code.specs.Generate.{strings_code}
 use Rattle.language.proofs.Elements.{closes-short}

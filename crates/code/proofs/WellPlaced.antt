@@ -17,7 +17,7 @@ use Rattle.language.specs.Whole.{functions_in, strings_in}
 use Rattle.code.specs.Faithful.{addresses_from, placement_of}
 use Rattle.code.specs.Placed.{WellPlaced}
 use Rattle.code.specs.Generate.{X, body_code, body_labels, functions_code, strings_code, items_of, text_of}
-use Rattle.code.proofs.Standing.{Env, Code, is-label, is-string, end, next}
+use Rattle.code.proofs.Standing.{Env, Code, is-label, is-string, next}
 use Rattle.code.proofs.Placing.{Lays, lay_step, lay-extends, label-found, past, past_more}
 use Rattle.code.proofs.Program as G
 use Rattle.code.proofs.Program.{Built, built}

@@ -11,12 +11,12 @@ use Rattle.language.specs.Source as S
 use Rattle.language.specs.Source.{symbols_of, parsed, read_source, read_symbols, too_long, scratch_too_short}
 use Rattle.language.specs.Reader.{Out, ok, no}
 use Rattle.language.specs.Grammar.{tree_of}
-use Rattle.language.specs.Program.{Refused, accepted, refused, least_or, rules_refuse, faults_of_program, functions_of, height_faults}
+use Rattle.language.specs.Program.{Refused, accepted, least_or, rules_refuse, faults_of_program, functions_of, height_faults}
 use Rattle.language.specs.Run.{no_fun}
 use Rattle.language.specs.Whole.{refusal_of, on_read, funs, functions_in, strings_in, strings_among}
 use Rattle.language.specs.Fine.{FineProgram}
 use Rattle.language.proofs.Tokens.{program_tokens}
-use Rattle.language.proofs.Takes.{Of, given, refused}
+use Rattle.language.proofs.Takes.{Of, given}
 use Rattle.language.proofs.ReadTokens.{program}
 use Rattle.language.proofs.SymbolFacts.{scan-length, cost, cost-length, symbols_now, source_now, counts, cost-now}
 use Rattle.language.proofs.Widths.{covered}

@@ -5,7 +5,7 @@ use Rattle.language.specs.Tree.{Item, Function, Declaration, Program}
 use Rattle.language.specs.Names as N
 use Rattle.language.specs.Names.{Scope, opened, lookup}
 use Rattle.language.specs.Constants.{judge, judged_word, for_global}
-use Rattle.language.specs.Resolved.{Body, Start, nowhere, in_global}
+use Rattle.language.specs.Resolved.{Start, nowhere, in_global}
 use Rattle.language.specs.Program as P
 use Rattle.language.specs.Program.{globals_after, manifests_after, start_of, with_function, functions_after, declared_by, inside, body_of, resolved}
 use Rattle.language.specs.Program.{body_faults, function_faults, Walk, after_declaration, group_name_faults, group_faults, declaration_faults, Named}

@@ -6,7 +6,7 @@ use Rattle.laws.proofs.Cases.{by_cases, by_cond, either, contradiction}
 use Rattle.text.specs.Quoted.{characters_of, quoted}
 use Rattle.language.specs.Kinds.{member, NOTHING, NAME, NUMBER, STRING, SEMICOLON}
 use Rattle.language.specs.Bytes.{class_of}
-use Rattle.language.specs.Symbols.{Symbol, Element, symbol, gap, wrong, same, by_class, Scan, on_element, scan_from, scan}
+use Rattle.language.specs.Symbols.{Symbol, Element, symbol, gap, wrong, by_class, Scan, on_element, scan_from, scan}
 use Rattle.language.specs.Strings.{with_value, numbered}
 use Rattle.language.specs.Semicolons.{inserted, gains, semicolons_after, semicolons}
 use Rattle.language.specs.Whole.{strings_among}

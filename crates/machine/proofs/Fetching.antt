@@ -2,7 +2,7 @@
 use Rattle.laws.proofs.Basics.{ℕ, ◌/◌, ◌%◌, ◌<◌, ◌≡◌, List, cond, arith, eq-eqb, ne_eqb}
 use mathlib.Core.Logic.{◌≢◌}
 use Rattle.words.specs.Words.{add}
-use Rattle.machine.specs.Outcome.{ok, ◌>>=◌, read}
+use Rattle.machine.specs.Outcome.{ok, read}
 use Rattle.machine.specs.State.{with_c}
 use Rattle.machine.specs.Fetch.{fetch, bit}
 use Rattle.machine.specs.Forms.{fetched_at, fetched_from, decoded}

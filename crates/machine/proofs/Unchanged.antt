@@ -3,7 +3,7 @@
 use Rattle.laws.proofs.Basics.{ℕ, zero, suc, ◌≡◌, refl, ap, ◌∙◌, List, Bool, true, false, ◌&&◌, length, ltb, leb}
 use Rattle.laws.proofs.Cases.{by_cases}
 use Rattle.machine.specs.Outcome.{Out, ok, stop, ◌>>=◌, read, write}
-use Rattle.machine.specs.State.{State, at}
+use Rattle.machine.specs.State.{State}
 use Rattle.machine.specs.Fetch.{Fetch, fetch}
 use Rattle.machine.specs.Acts.{Act, unlisted, indirect, negate, invert, back, finish, switch, rdch, wrch, dyadic, act_of, indirected, returned}
 use Rattle.machine.specs.Acts.{combined, sought, switched, received, sent}
