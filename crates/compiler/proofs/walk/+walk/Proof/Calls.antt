@@ -36,38 +36,38 @@ pub applied-ok : {M : Type 1} (t : ℕ) → cycle.Lts-applied.Closed (applied-cs
 applied-ok t = cycle.Lts-applied.spec (applied-cs t) (at applied t) (rank applied).post (λ c κs. search (needs, primary-part)) (λ c. omega arith)
     (λ c. omega arith) (λ c. search primary-gave) (λ c κs. omega arith) (λ c κs. omega arith) (λ c κs. omega arith) (λ c κs. omega arith)
     (λ c κs. omega arith)
-    (λ c κs. let start = applied-start t (search) in let r = applied-read t (search) in both (omega (arith, start.pre.0)) (search (index-left r)))
+    (λ c κs. let start = applied-start t (search) in let r = applied-read t (search) in both (omega (arith, start.requires.0)) (search (index-left r)))
     -- indexed-requires
     (λ c κs. let start = applied-start t (search) in
-    both (omega (arith, start.pre.0)) (index-right (applied-read t (search)) (search) _
-    c.before.before.before.before.before.before.applied.ensures start.pre.1))
+    both (omega (arith, start.requires.0)) (index-right (applied-read t (search)) (search) _
+    c.applied-a.ensures start.requires.1))
     (λ c. omega arith) (λ c. omega arith)
     -- returns-2
-    (λ c. let after-indexed = c.before.before.before.before in
-    index-gave (applied-read t (search)) (search) _ after-indexed.before.before.before.before.before.before.before.applied.ensures
+    (λ c. let after-indexed = c in
+    index-gave (applied-read t (search)) (search) _ after-indexed.applied-a.ensures
     after-indexed.indexed.ensures)
     (λ c κs. omega arith)
-    (λ c κs. let start = applied-start t (search) in both (omega (arith, start.pre.0)) (search (call-args (applied-read t (search)))))
+    (λ c κs. let start = applied-start t (search) in both (omega (arith, start.requires.0)) (search (call-args (applied-read t (search)))))
     (λ c. let y = (applied-start t (search)).pre.1.ready in omega (arith, applied-few t (search)))
     (λ c κs. let y = (applied-start t (search)).pre.1.ready in omega (arith, applied-few t (search)))
     -- applied-requires-2
     (λ c κs. let start = applied-start t (search) in let r = applied-read t (search) in
-    let after-passed = c.before.before.before.before.before.before.before in
-    both (omega (arith, start.pre.0, left_at))
-    (suffixes-ready-at c.raised.ensures (call-callee r (search) _ (search) after-passed.passed.ensures start.pre.1)))
+    let after-passed = c in
+    both (omega (arith, start.requires.0, left_at))
+    (suffixes-ready-at c.raised.ensures (call-callee r (search) _ (search) after-passed.passed-b.ensures start.requires.1)))
     (λ c κs. omega arith) (λ c. omega arith) (λ c. omega arith)
     -- returns-3
-    (λ c. let after-applied2 = c.before.before.before.before.before.before.before.before in let after-raised = after-applied2.before in
-    let after-passed = after-raised.before.before.before.before.before.before.before in
-    call-gave (applied-read t (search)) (search) _ (search) after-passed.passed.ensures
-    (suffixes-gave-at after-raised.raised.ensures after-applied2.applied2.ensures) c.before.before.put.ensures)
+    (λ c. let after-applied2 = c in let after-raised = after-applied2 in
+    let after-passed = after-raised in
+    call-gave (applied-read t (search)) (search) _ (search) after-passed.passed-b.ensures
+    (suffixes-gave-at after-raised.raised.ensures after-applied2.applied-c.ensures) c.put.ensures)
 
 abbrev args-cs : ℕ → cycle.Lts-args.Claims
 args-cs t =
     four (proofs.scope.entry.Reads.Asked, proofs.scope.entry.Reads.Learnt) (steps.raised.Reads.Asked, steps.raised.Reads.Learnt) (calls expr t)
     (steps.keep.Reads.Asked, steps.keep.Reads.Learnt)
 
-abbrev args-Inv-loop : cycle.Lts-args.InvT-loop
+abbrev args-Inv-loop : cycle.Lts-args.invariant-loop-at
 args-Inv-loop source s₀ from end text₀ here at₀ k₀ r₀ s text at k r =
     (length s ≡ length s₀) × (length text ≡ length text₀) × ((y : ReadyArgs s₀ from end here r₀) → ArgsPart source text₀ y s text at k r)
 
@@ -75,36 +75,36 @@ pub args_ok : {M : Type 1} (t : ℕ) → cycle.Lts-args.Closed (args-cs t) (at a
 args_ok t =
     cycle.Lts-args.spec (args-cs t) (at args t) (rank args).post args-Inv-loop (λ source s₀ from end text₀ here at₀ k₀ r₀ s text at k r. end - at)
     (λ c. search (needs, args-begin)) (λ c. omega arith) (λ c κs. omega arith) (λ c. omega (arith, c.entry.ensures.1))
-    (λ c κs. let height = (c.before.before.before.before.before.loop.inv.2
-    c.before.before.before.before.before.before.before.before.before.pre.1).height in omega arith)
+    (λ c κs. let height = (c.loop-at.invariant.2
+    c.requires.1).height in omega arith)
     -- expr-requires
-    (λ c κs. let after-entry = c.before.before.before in let after-loop-test = after-entry.before.before in
-    let after-loop = after-loop-test.before in let start = after-loop.before.before.before.before in
-    both (omega (arith, start.pre.0, left_at))
-    (ready_at c.raised.ensures (args-part _ _ _ after-loop-test.loop-test.taken after-entry.entry.ensures.0 refl start.pre.1
-    (after-loop.loop.inv.2 start.pre.1))))
+    (λ c κs. let after-entry = c in let after-loop-test = after-entry in
+    let after-loop = after-loop-test in let start = after-loop in
+    both (omega (arith, start.requires.0, left_at))
+    (ready_at c.raised.ensures (args-part _ _ _ after-loop-test.loop-at-test.true after-entry.entry.ensures.0 refl start.requires.1
+    (after-loop.loop-at.invariant.2 start.requires.1))))
     -- add-keep
-    (λ c. let after-loop = c.before.before.before.before.before.before.before.before.before.before.before.before.before in
-    let start = after-loop.before.before.before.before in
-    omega (arith, (after-loop.loop.inv.2 start.pre.1).height, start.pre.1.ready.height))
+    (λ c. let after-loop = c in
+    let start = after-loop in
+    omega (arith, (after-loop.loop-at.invariant.2 start.requires.1).height, start.requires.1.ready.height))
     -- keep-requires
-    (λ c κs. let after-loop = c.before.before.before.before.before.before.before.before.before.before.before.before.before in
-    let start = after-loop.before.before.before.before in
-    omega (arith, (after-loop.loop.inv.2 start.pre.1).height, start.pre.1.ready.height))
+    (λ c κs. let after-loop = c in
+    let start = after-loop in
+    omega (arith, (after-loop.loop-at.invariant.2 start.requires.1).height, start.requires.1.ready.height))
     -- add-k
-    (λ c. let after-loop = c.before.before.before.before.before.before.before.before.before.before.before.before.before.before.before.before in let start = after-loop.before.before.before.before in
-    omega (arith, (after-loop.loop.inv.2 start.pre.1).height, start.pre.1.ready.height))
+    (λ c. let after-loop = c in let start = after-loop in
+    omega (arith, (after-loop.loop-at.invariant.2 start.requires.1).height, start.requires.1.ready.height))
     (λ c. omega arith)
     -- loop-again
-    (λ c. let after-expr = c.before.before.before.before.before.before.before.before.before in
-    let after-raised = after-expr.before in let after-entry = after-raised.before.before.before in
-    let after-loop-test = after-entry.before.before in let after-loop = after-loop-test.before in (
-      after-expr.expr.kept.1.0 ∙ after-loop.loop.inv.0,
-      c.before.before.keep.kept.0 ∙ after-expr.expr.kept.1.1.1.0 ∙ after-loop.loop.inv.1,
-      λ y. args-next _ _ _ after-loop-test.loop-test.taken after-entry.entry.ensures.0 refl
-          (gave_at _ after-raised.raised.ensures after-expr.expr.ensures) c.before.before.keep.ensures y (after-loop.loop.inv.2 y),
+    (λ c. let after-expr = c in
+    let after-raised = after-expr in let after-entry = after-raised in
+    let after-loop-test = after-entry in let after-loop = after-loop-test in (
+      after-expr.expr-a.kept.1.0 ∙ after-loop.loop-at.invariant.0,
+      c.keep-r.kept.0 ∙ after-expr.expr-a.kept.1.1.1.0 ∙ after-loop.loop-at.invariant.1,
+      λ y. args-next _ _ _ after-loop-test.loop-at-test.true after-entry.entry.ensures.0 refl
+          (gave_at _ after-raised.raised.ensures after-expr.expr-a.ensures) c.keep-r.ensures y (after-loop.loop-at.invariant.2 y),
     ))
-    (λ c. omega arith) (λ c. omega arith) (λ c. args_end _ _ _ c.loop-test.left c.before.loop.inv.2)
+    (λ c. omega arith) (λ c. omega arith) (λ c. args_end _ _ _ c.loop-at-test.false c.loop-at.invariant.2)
 
 abbrev indexed-cs : ℕ → cycle.Lts-indexed.Claims
 indexed-cs t = four (steps.keep.Reads.Asked, steps.keep.Reads.Learnt) (steps.raised.Reads.Asked, steps.raised.Reads.Learnt) (calls expr t)
@@ -112,7 +112,7 @@ indexed-cs t = four (steps.keep.Reads.Asked, steps.keep.Reads.Learnt) (steps.rai
 
 pub indexed-ok : {M : Type 1} (t : ℕ) → cycle.Lts-indexed.Closed (indexed-cs t) (at indexed t) (rank indexed).post M
 indexed-ok t = cycle.Lts-indexed.spec (indexed-cs t) (at indexed t) (rank indexed).post (λ c κs. omega arith) (λ c κs. omega arith) (λ c κs. (
-  omega (arith, c.before.before.before.before.before.before.before.before.before.before.pre.0, left_at),
+  omega (arith, c.requires.0, left_at),
   search (ready_at, with-state),
 )) (λ c κs. omega arith) (λ c. omega arith) (λ c. omega arith) (λ c. search (indexed-gave, gave_at))
 
@@ -122,6 +122,6 @@ passed-cs t = three (steps.reached.Reads.Asked, steps.reached.Reads.Learnt) (ste
 pub passed_ok : {M : Type 1} (t : ℕ) → cycle.Lts-passed.Closed (passed-cs t) (at passed t) (rank passed).post M
 passed_ok t = cycle.Lts-passed.spec (passed-cs t) (at passed t) (rank passed).post (λ c. omega arith) (λ c κs. omega arith) (λ c κs. omega arith)
     -- args-requires
-    (λ c κs. let after-reached = c.before.before.before in let start = after-reached.before.before.before.before.before in
-    both (omega (arith, left_at)) (args-ready-at c.raised.ensures (args-with (after-reached.reached.ensures.by []).label start.pre.1)))
+    (λ c κs. let after-reached = c in let start = after-reached in
+    both (omega (arith, left_at)) (args-ready-at c.raised.ensures (args-with (after-reached.reached-a.ensures.by []).label start.requires.1)))
     (λ c. omega arith) (λ c. omega arith) (λ c. search (passed-gave, args-gave-at))

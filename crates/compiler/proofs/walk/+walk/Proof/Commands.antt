@@ -22,13 +22,13 @@ command-cs t =
 
 pub command-ok : {M : Type 1} (t : ℕ) → cycle.Lts-command.Closed (command-cs t) (at command t) (rank command).post M
 command-ok t = cycle.Lts-command.spec (command-cs t) (at command t) (rank command).post (λ c κs. omega arith) (λ c. omega arith)
-    (λ c κs. (labelled-labels _ c.before.before.before.before.Node-at.ensures c.before.before.if1.taken refl
-    c.before.before.before.before.before.before.before.before.before.pre.1).small)
+    (λ c κs. (labelled-labels _ c.node_at-n.ensures c.if-n-eq-LABELLED.true refl
+    c.requires.1).small)
     -- bare-requires
-    (λ c κs. let after-if1 = c.before.before.before.before.before in let after-node-at = after-if1.before.before in
-    let start = after-node-at.before.before.before.before.before in
-    both (omega (arith, start.pre.0)) (labelled-bare _ after-node-at.Node-at.ensures after-if1.if1.taken refl _
-    c.before.before.misplaced.ensures start.pre.1))
+    (λ c κs. let after-if1 = c in let after-node-at = after-if1 in
+    let start = after-node-at in
+    both (omega (arith, start.requires.0)) (labelled-bare _ after-node-at.node_at-n.ensures after-if1.if-n-eq-LABELLED.true refl _
+    c.misplaced-a.ensures start.requires.1))
     (λ c. omega arith) (λ c. omega arith) (λ c. search labelled-gave) (λ c κs. search needs) (λ c. omega arith) (λ c. omega arith)
     (λ c. search unlabelled-gave)
 
@@ -39,20 +39,20 @@ pub bare-ok : {M : Type 1} (t : ℕ) → cycle.Lts-bare.Closed (bare-cs t) (at b
 bare-ok t = cycle.Lts-bare.spec (bare-cs t) (at bare t) (rank bare).post (λ c κs. omega arith) (λ c. omega arith) (λ c. omega arith)
     (λ c. search bare-empty) (λ c κs. omega arith)
     -- repeated-requires
-    (λ c κs. let after-if2 = c.before.before.before in let after-if1 = after-if2.before.before.before in
-    let after-node-at = after-if1.before.before in let start = after-node-at.before.before.before.before.before in
-    both (omega (arith, start.pre.0, left_at, command-some))
-    (ready_at c.inside.ensures (labelled-rest _ after-node-at.Node-at.ensures after-if1.if1.taken refl after-if2.if2.left
-    start.pre.1)))
+    (λ c κs. let after-if2 = c in let after-if1 = after-if2 in
+    let after-node-at = after-if1 in let start = after-node-at in
+    both (omega (arith, start.requires.0, left_at, command-some))
+    (ready_at c.inside.ensures (labelled-rest _ after-node-at.node_at-n.ensures after-if1.if-n-eq-LABELLED.true refl after-if2.if-n.false
+    start.requires.1)))
     (λ c. omega arith) (λ c. omega arith)
     -- returns-2
-    (λ c. let after-repeated = c.before.before.before.before in let after-inside = after-repeated.before in
-    let after-if2 = after-inside.before.before.before in let after-if1 = after-if2.before.before.before in
-    let after-node-at = after-if1.before.before in
-    bare-labelled _ after-node-at.Node-at.ensures after-if1.if1.taken refl after-if2.if2.left _ _
+    (λ c. let after-repeated = c in let after-inside = after-repeated in
+    let after-if2 = after-inside in let after-if1 = after-if2 in
+    let after-node-at = after-if1 in
+    bare-labelled _ after-node-at.node_at-n.ensures after-if1.if-n-eq-LABELLED.true refl after-if2.if-n.false _ _
     (gave-r-at _ after-inside.inside.ensures refl after-repeated.repeated.ensures))
     (λ c κs. omega arith)
-    (λ c κs. both (omega (arith, c.before.before.before.before.before.before.before.before.before.before.pre.0, left_at, command-some))
+    (λ c κs. both (omega (arith, c.requires.0, left_at, command-some))
     (search (ready_at, bare-part))) (λ c. omega arith) (λ c. omega arith) (λ c. search (bare-gave, gave-r-at))
 
 abbrev plain-cs : ℕ → cycle.Lts-plain.Claims
@@ -67,13 +67,13 @@ plain_ok t = cycle.Lts-plain.spec (plain-cs t) (at plain t) (rank plain).post (�
     (λ c. omega arith) (λ c κs. search (needs, assigned-part)) (λ c κs. search needs) (λ c κs. search (needs, while-while))
     (λ c κs. search (needs, while-until)) (λ c κs. (omega arith, (search needs, record { is = cc })))
     (λ c κs. (omega arith, (search needs, record { is = cc }))) (λ c κs. search (needs, performed-part))
-    (λ c _. c.before.before.Node-at.ensures.place_fits) (λ c. omega arith) (λ c. omega arith) (λ c. search result-gave) (λ c. omega arith)
-    (λ c. omega arith) (λ c. c.before.before.before.before.when.ensures) (λ c. omega arith) (λ c. omega arith)
-    (λ c. c.before.before.before.before.when2.ensures) (λ c. omega arith) (λ c. omega arith)
-    (λ c. c.before.before.before.before.block.ensures) (λ c. omega arith) (λ c. omega arith) (λ c. search assigned-gave) (λ c. omega arith)
-    (λ c. omega arith) (λ c. c.before.before.before.before.test.ensures) (λ c. omega arith) (λ c. omega arith)
-    (λ c. c.before.before.before.before.while-do.ensures) (λ c. omega arith) (λ c. omega arith)
-    (λ c. c.before.before.before.before.while-do2.ensures) (λ c. omega arith) (λ c. omega arith)
-    (λ c. c.before.before.before.before.for-to.ensures) (λ c. omega arith) (λ c. omega arith)
-    (λ c. c.before.before.before.before.switch.ensures) (λ c. omega arith) (λ c. omega arith) (λ c. search performed-gave) (λ c. omega arith)
+    (λ c _. c.node_at-n.ensures.place_fits) (λ c. omega arith) (λ c. omega arith) (λ c. search result-gave) (λ c. omega arith)
+    (λ c. omega arith) (λ c. c.when.ensures) (λ c. omega arith) (λ c. omega arith)
+    (λ c. c.when-in-17.ensures) (λ c. omega arith) (λ c. omega arith)
+    (λ c. c.block.ensures) (λ c. omega arith) (λ c. omega arith) (λ c. search assigned-gave) (λ c. omega arith)
+    (λ c. omega arith) (λ c. c.test.ensures) (λ c. omega arith) (λ c. omega arith)
+    (λ c. c.while_do.ensures) (λ c. omega arith) (λ c. omega arith)
+    (λ c. c.while_do-in-19.ensures) (λ c. omega arith) (λ c. omega arith)
+    (λ c. c.for_to.ensures) (λ c. omega arith) (λ c. omega arith)
+    (λ c. c.switch.ensures) (λ c. omega arith) (λ c. omega arith) (λ c. search performed-gave) (λ c. omega arith)
     (λ c. omega arith) (λ c. search away-gave)

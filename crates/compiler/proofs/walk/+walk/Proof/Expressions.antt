@@ -25,49 +25,49 @@ pub expr-ok : {M : Type 1} (t : ℕ) → cycle.Lts-expr.Closed (expr-cs t) (at e
 expr-ok t = cycle.Lts-expr.spec (expr-cs t) (at expr t) (rank expr).post (λ c κs. omega arith) (λ c κs. omega arith) (λ c. omega arith)
     (λ c κs. omega arith) (λ c κs. omega arith) (λ c κs. omega arith) (λ c κs. omega arith)
     (λ c κs. (omega (arith, left_at, some_left), search (ready_at, bracket-part))) (λ c κs. omega arith) (λ c. omega arith)
-    (λ c κs. both (omega (arith, c.before.before.before.before.before.before.before.before.before.before.pre.0, left_at, some_left))
+    (λ c κs. both (omega (arith, c.requires.0, left_at, some_left))
     (search (ready_at, dyadic-left)))
     -- chain-requires
-    (λ c κs. let after-expr2 = c.before.before.before.before.before.before in let after-inside2 = after-expr2.before.before.before.before in
-    let after-match = after-inside2.before in let after-node-at = after-match.before in
-    let start = after-node-at.before.before.before.before.before in
-    both (omega (arith, start.pre.0, left_at, some_left)) (chain-ready-at after-inside2.inside2.ensures
-    (dyadic-rest _ after-node-at.Node-at.ensures after-match.match.keys5 refl _
-    (gave_at _ after-inside2.inside2.ensures after-expr2.expr2.ensures) start.pre.1)))
+    (λ c κs. let after-expr2 = c in let after-inside2 = after-expr2 in
+    let after-match = after-inside2 in let after-node-at = after-match in
+    let start = after-node-at in
+    both (omega (arith, start.requires.0, left_at, some_left)) (chain-ready-at after-inside2.inside-deep.ensures
+    (dyadic-rest _ after-node-at.node_at-n.ensures after-match.in-131.is refl _
+    (gave_at _ after-inside2.inside-deep.ensures after-expr2.expr-a.ensures) start.requires.1)))
     (λ c κs. omega arith) (λ c κs. omega arith) (λ c κs. omega arith)
-    (λ c κs. both (let falls = c.before.before.before.before.before.before.before.before.before.before.before.pre.0 in
+    (λ c κs. both (let falls = c.requires.0 in
     omega (arith, left_at, some_left)) (search (ready_at, valof-part)))
     (λ c κs. omega arith) (λ c κs. omega arith) (λ c κs. (omega (arith, left_at, some_left), search (ready_at, monadic-part))) (λ c. omega arith)
     (λ c κs. omega arith)
     -- applied-requires
-    (λ c κs. both (let falls = c.before.before.before.before.before.before.before.before.before.before.pre.0 in
-    let small = c.before.before.before.before.before.before.before.before.before.before.pre.1.small in
+    (λ c κs. both (let falls = c.requires.0 in
+    let small = c.requires.1.small in
     omega (arith, left_at, some_left)) (search (suffixes-ready-at, suffixed-part)))
     (λ c. omega arith) (λ c. omega arith) (λ c. search number-gave) (λ c. omega arith) (λ c. omega arith) (λ c. search string-gave)
     (λ c. omega arith) (λ c. omega arith) (λ c. search name-gave) (λ c. omega arith) (λ c. omega arith) (λ c. search (bracket-gave, gave_at))
     (λ c. omega arith) (λ c. omega arith)
     -- returns-5
-    (λ c. let after-chain = c.before.before.before.before in
-    let after-expr2 = after-chain.before.before.before.before.before.before.before in
-    let after-inside2 = after-expr2.before.before.before.before in let after-match = after-inside2.before in
-    let after-node-at = after-match.before in
-    dyadic-gave _ after-node-at.Node-at.ensures after-match.match.keys5 refl _
-    (gave_at _ after-inside2.inside2.ensures after-expr2.expr2.ensures)
-    (chain-gave-at after-inside2.inside2.ensures after-chain.chain.ensures))
+    (λ c. let after-chain = c in
+    let after-expr2 = after-chain in
+    let after-inside2 = after-expr2 in let after-match = after-inside2 in
+    let after-node-at = after-match in
+    dyadic-gave _ after-node-at.node_at-n.ensures after-match.in-131.is refl _
+    (gave_at _ after-inside2.inside-deep.ensures after-expr2.expr-a.ensures)
+    (chain-gave-at after-inside2.inside-deep.ensures after-chain.chain.ensures))
     (λ c. omega arith) (λ c. omega arith) (λ c. search (valof-gave, gave-c-at)) (λ c. omega arith) (λ c. omega arith)
     (λ c. search (monadic-gave, gave-monadic-at)) (λ c. omega arith) (λ c. omega arith)
     -- returns-8
-    (λ c. let after-applied = c.before.before.before.before in let after-inside5 = after-applied.before in
-    let after-match = after-inside5.before.before.before.before in let after-node-at = after-match.before in
-    suffixed-gave _ after-node-at.Node-at.ensures after-match.match.rest refl _
-    (suffixes-gave-at after-inside5.inside5.ensures after-applied.applied.ensures))
+    (λ c. let after-applied = c in let after-inside5 = after-applied in
+    let after-match = after-inside5 in let after-node-at = after-match in
+    suffixed-gave _ after-node-at.node_at-n.ensures after-match.in_default.in_default-own.rest refl _
+    (suffixes-gave-at after-inside5.inside-in_default.ensures after-applied.applied.ensures))
 
 abbrev chain-cs : ℕ → cycle.Lts-chain.Claims
 chain-cs t = six (proofs.scope.entry.Reads.Asked, proofs.scope.entry.Reads.Learnt) (steps.keep.Reads.Asked, steps.keep.Reads.Learnt)
     (steps.raised.Reads.Asked, steps.raised.Reads.Learnt) (calls expr t) (steps.act_of.Reads.Asked, steps.act_of.Reads.Learnt)
     (steps.operate.Reads.Asked, steps.operate.Reads.Learnt)
 
-abbrev chain-Inv-loop : cycle.Lts-chain.InvT-loop
+abbrev chain-Inv-loop : cycle.Lts-chain.invariant-loop-at
 chain-Inv-loop source s₀ from end text₀ here at₀ r₀ s text at r =
     (length s ≡ length s₀) × (length text ≡ length text₀) × ((y : ReadyChain s₀ from end here r₀) → ChainPart source text₀ y s text at r)
 
@@ -75,30 +75,30 @@ pub chain-ok : {M : Type 1} (t : ℕ) → cycle.Lts-chain.Closed (chain-cs t) (a
 chain-ok t =
     cycle.Lts-chain.spec (chain-cs t) (at chain t) (rank chain).post chain-Inv-loop (λ source s₀ from end text₀ here at₀ r₀ s text at r. end - at)
     (λ c. search (needs, chain-begin)) (λ c κs. omega arith) (λ c. omega arith) (λ c κs. omega arith) (λ c. omega arith)
-    (λ c. omega (arith, c.before.before.entry.ensures.1)) (λ c κs. omega arith) (λ c κs. omega arith)
+    (λ c. omega (arith, c.entry-size.ensures.1)) (λ c κs. omega arith) (λ c κs. omega arith)
     -- expr-requires
-    (λ c κs. let after-keep = c.before.before.before.before.before in let after-entry2 = after-keep.before.before in
-    let after-entry = after-entry2.before.before in let after-loop-test = after-entry.before.before in let after-loop = after-loop-test.before in
-    let start = after-loop.before.before.before.before in
-    both (omega (arith, start.pre.0, left_at))
-    (ready_at c.raised.ensures (chain-part _ _ after-loop-test.loop-test.taken after-entry.entry.ensures.0
-    after-entry2.entry2.ensures.0 refl after-keep.keep.ensures.label start.pre.1 (after-loop.loop.inv.2 start.pre.1))))
+    (λ c κs. let after-keep = c in let after-entry2 = after-keep in
+    let after-entry = after-entry2 in let after-loop-test = after-entry in let after-loop = after-loop-test in
+    let start = after-loop in
+    both (omega (arith, start.requires.0, left_at))
+    (ready_at c.raised.ensures (chain-part _ _ after-loop-test.loop-at-test.true after-entry.entry-size.ensures.0
+    after-entry2.entry-operator.ensures.0 refl after-keep.keep-a.ensures.label start.requires.1 (after-loop.loop-at.invariant.2 start.requires.1))))
     (λ c κs. omega arith)
     -- operate-requires
-    (λ c κs. let start = c.before.before.before.before.before.before.before.before.before.before.before.before.before.before.before.before.before.before.before.before.before.before.before in omega (arith, start.pre.1.ready.height))
+    (λ c κs. let start = c in omega (arith, start.requires.1.ready.height))
     -- loop-less
-    (λ c. let after-loop-test = c.before.before.before.before.before.before.before.before.before.before.before.before.before.before.before.before.before.before.before.before.before in omega (arith, after-loop-test.loop-test.taken))
+    (λ c. let after-loop-test = c in omega (arith, after-loop-test.loop-at-test.true))
     -- loop-again
-    (λ c. let after-act-of = c.before.before.before in let after-expr = after-act-of.before.before.before.before.before.before in
-    let after-raised = after-expr.before in let after-keep = after-raised.before.before.before.before.before in
-    let after-entry2 = after-keep.before.before in let after-entry = after-entry2.before.before in
-    let after-loop-test = after-entry.before.before in let after-loop = after-loop-test.before in (
-      after-expr.expr.kept.1.0 ∙ after-loop.loop.inv.0,
-      c.before.before.operate.kept.0 ∙ after-expr.expr.kept.1.1.1.0 ∙ after-keep.keep.kept.0 ∙ after-loop.loop.inv.1,
-      λ y. chain_next _ _ after-loop-test.loop-test.taken
-          after-entry.entry.ensures.0 after-entry2.entry2.ensures.0 refl after-act-of.act-of.ensures after-keep.keep.ensures
-          (gave_at _ after-raised.raised.ensures after-expr.expr.ensures) c.before.before.operate.ensures y
-          (after-loop.loop.inv.2 y),
+    (λ c. let after-act-of = c in let after-expr = after-act-of in
+    let after-raised = after-expr in let after-keep = after-raised in
+    let after-entry2 = after-keep in let after-entry = after-entry2 in
+    let after-loop-test = after-entry in let after-loop = after-loop-test in (
+      after-expr.expr-b.kept.1.0 ∙ after-loop.loop-at.invariant.0,
+      c.operate-r.kept.0 ∙ after-expr.expr-b.kept.1.1.1.0 ∙ after-keep.keep-a.kept.0 ∙ after-loop.loop-at.invariant.1,
+      λ y. chain_next _ _ after-loop-test.loop-at-test.true
+          after-entry.entry-size.ensures.0 after-entry2.entry-operator.ensures.0 refl after-act-of.act_of.ensures after-keep.keep-a.ensures
+          (gave_at _ after-raised.raised.ensures after-expr.expr-b.ensures) c.operate-r.ensures y
+          (after-loop.loop-at.invariant.2 y),
     ))
     (λ c. omega arith) (λ c. omega arith) (λ c. search chain-end)
 

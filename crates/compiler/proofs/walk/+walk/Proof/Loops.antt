@@ -22,50 +22,50 @@ while-do-ok t =
     cycle.Lts-while_do.spec (while-do-cs t) (at while-do t) (rank while-do).post (λ c κs. omega arith) (λ c κs. omega arith) (λ c κs. omega arith)
     (λ c κs. omega arith)
     -- expr-requires
-    (λ c κs. let after-mark = c.before.before.before.before in let after-fresh = after-mark.before.before in
-    let after-node-at2 = after-fresh.before in let after-node-at = after-node-at2.before.before in
-    let start = after-node-at.before.before.before.before.before in
-    both (omega (arith, start.pre.0)) (while-test _ _ after-node-at.Node-at.ensures after-node-at2.node-at2.ensures start.pre.1.1.word
-    after-fresh.fresh.ensures after-mark.mark.ensures start.pre.1.0))
+    (λ c κs. let after-mark = c in let after-fresh = after-mark in
+    let after-node-at2 = after-fresh in let after-node-at = after-node-at2 in
+    let start = after-node-at in
+    both (omega (arith, start.requires.0)) (while-test _ _ after-node-at.node_at-n.ensures after-node-at2.node_at-body.ensures start.requires.1.1.word
+    after-fresh.fresh-a.ensures after-mark.mark-b.ensures start.requires.1.0))
     (λ c κs. omega arith) (λ c. omega arith) (λ c κs. omega arith)
     -- add-in-loop
-    (λ c. let start = c.before.before.before.before.before.before.before.before.before.before.before.before.before.before.before.before.before.before.before.before.before.before.before.before.before.before.before.before in omega (arith, start.pre.1.0.label))
+    (λ c. let start = c in omega (arith, start.requires.1.0.label))
     (λ c κs. omega arith)
     -- command-requires
-    (λ c κs. let after-put-to = c.before.before.before.before.before.before in
-    let after-expr = after-put-to.before.before.before.before.before.before.before.before in
-    let after-mark = after-expr.before.before.before.before.before in let after-fresh = after-mark.before.before in
-    let after-node-at2 = after-fresh.before in let after-node-at = after-node-at2.before.before in
-    let start = after-node-at.before.before.before.before.before in
-    both (omega (arith, start.pre.0)) (while-body _ _ after-node-at.Node-at.ensures after-node-at2.node-at2.ensures start.pre.1.1.word
-    after-fresh.fresh.ensures after-mark.mark.ensures _ after-expr.expr.ensures after-put-to.put-to.ensures start.pre.1.0))
+    (λ c κs. let after-put-to = c in
+    let after-expr = after-put-to in
+    let after-mark = after-expr in let after-fresh = after-mark in
+    let after-node-at2 = after-fresh in let after-node-at = after-node-at2 in
+    let start = after-node-at in
+    both (omega (arith, start.requires.0)) (while-body _ _ after-node-at.node_at-n.ensures after-node-at2.node_at-body.ensures start.requires.1.1.word
+    after-fresh.fresh-a.ensures after-mark.mark-b.ensures _ after-expr.expr-c.ensures after-put-to.put_to-d.ensures start.requires.1.0))
     (λ c κs. omega arith)
     -- add-mark
-    (λ c. let start = c.before.before.before.before.before.before.before.before.before.before.before.before.before.before.before.before.before.before.before.before.before.before.before.before.before.before.before.before.before.before.before.before.before.before.before.before.before.before.before.before in omega (arith, start.pre.1.0.label))
+    (λ c. let start = c in omega (arith, start.requires.1.0.label))
     (λ c κs. omega arith)
     -- same-length
-    (λ c. let after-command = c.before.before.before.before.before.before.before.before.before.before.before.before.before in
-    let after-expr = after-command.before.before.before.before.before.before.before.before.before.before.before.before.before.before.before in after-command.command.kept.1.0 ∙ after-expr.expr.kept.1.0)
+    (λ c. let after-command = c in
+    let after-expr = after-command in after-command.command-e.kept.1.0 ∙ after-expr.expr-c.kept.1.0)
     -- same-length-2
-    (λ c. let after-put-to2 = c.before.before.before.before.before.before.before in
-    let after-command = after-put-to2.before.before.before.before.before.before in
-    let after-put-to = after-command.before.before.before.before.before.before.before in
-    let after-expr = after-put-to.before.before.before.before.before.before.before.before in
-    let after-mark = after-expr.before.before.before.before.before in
-    c.before.before.mark2.kept.0 ∙ after-put-to2.put-to2.kept.0 ∙ after-command.command.kept.1.1.1.0 ∙ after-put-to.put-to.kept.0
-    ∙ after-expr.expr.kept.1.1.1.0 ∙ after-mark.mark.kept.0)
+    (λ c. let after-put-to2 = c in
+    let after-command = after-put-to2 in
+    let after-put-to = after-command in
+    let after-expr = after-put-to in
+    let after-mark = after-expr in
+    c.mark.kept.0 ∙ after-put-to2.put_to-f.kept.0 ∙ after-command.command-e.kept.1.1.1.0 ∙ after-put-to.put_to-d.kept.0
+    ∙ after-expr.expr-c.kept.1.1.1.0 ∙ after-mark.mark-b.kept.0)
     -- returns
-    (λ c. let after-put-to2 = c.before.before.before.before.before.before.before in
-    let after-command = after-put-to2.before.before.before.before.before.before in let after-in-loop = after-command.before in
-    let after-put-to = after-in-loop.before.before.before.before.before.before in let after-jump-unless = after-put-to.before.before in
-    let after-expr = after-jump-unless.before.before.before.before.before.before in
-    let after-mark = after-expr.before.before.before.before.before in let after-fresh = after-mark.before.before in
-    let after-node-at2 = after-fresh.before in let after-node-at = after-node-at2.before.before in
-    let start = after-node-at.before.before.before.before.before in
-    while-gave _ _ after-node-at.Node-at.ensures after-node-at2.node-at2.ensures start.pre.1.1.word after-fresh.fresh.ensures
-    after-mark.mark.ensures _ after-expr.expr.ensures after-put-to.put-to.ensures _ after-jump-unless.jump-unless.ensures
-    (gave-c-at _ refl after-in-loop.in-loop.ensures after-command.command.ensures) after-put-to2.put-to2.ensures
-    c.before.before.mark2.ensures)
+    (λ c. let after-put-to2 = c in
+    let after-command = after-put-to2 in let after-in-loop = after-command in
+    let after-put-to = after-in-loop in let after-jump-unless = after-put-to in
+    let after-expr = after-jump-unless in
+    let after-mark = after-expr in let after-fresh = after-mark in
+    let after-node-at2 = after-fresh in let after-node-at = after-node-at2 in
+    let start = after-node-at in
+    while-gave _ _ after-node-at.node_at-n.ensures after-node-at2.node_at-body.ensures start.requires.1.1.word after-fresh.fresh-a.ensures
+    after-mark.mark-b.ensures _ after-expr.expr-c.ensures after-put-to.put_to-d.ensures _ after-jump-unless.jump_unless.ensures
+    (gave-c-at _ refl after-in-loop.in_loop.ensures after-command.command-e.ensures) after-put-to2.put_to-f.ensures
+    c.mark.ensures)
 
 abbrev for-to-cs : ℕ → cycle.Lts-for_to.Claims
 for-to-cs t = fifteen (steps.node_at.Reads.Asked, steps.node_at.Reads.Learnt) (steps.minus.Reads.Asked, steps.minus.Reads.Learnt)
@@ -94,131 +94,131 @@ pub for-to-ok : {M : Type 1} (t : ℕ) → cycle.Lts-for_to.Closed (for-to-cs t)
 for-to-ok t = cycle.Lts-for_to.spec (for-to-cs t) (at for-to t) (rank for-to).post (λ c κs. omega arith) (λ c κs. omega arith) (λ c κs. omega arith)
     (λ c κs. omega arith) (λ c κs. omega arith)
     -- expr-requires
-    (λ c κs. let after-node-at3 = c.before.before.before in let after_minus = after-node-at3.before.before in
-    let after-node-at2 = after_minus.before in let after-node-at = after-node-at2.before.before in
-    let start = after-node-at.before.before.before.before.before in
-    both (omega (arith, start.pre.0)) (for-first _ _ _ after-node-at.Node-at.ensures after-node-at2.node-at2.ensures
-    after_minus.minus.ensures after-node-at3.node-at3.ensures start.pre.1.1.is c.before.before.fresh.ensures start.pre.1.0))
+    (λ c κs. let after-node-at3 = c in let after_minus = after-node-at3 in
+    let after-node-at2 = after_minus in let after-node-at = after-node-at2 in
+    let start = after-node-at in
+    both (omega (arith, start.requires.0)) (for-first _ _ _ after-node-at.node_at-n.ensures after-node-at2.node_at-body.ensures
+    after_minus.minus-limit_end.ensures after-node-at3.node_at-limit.ensures start.requires.1.1.is c.fresh-a.ensures start.requires.1.0))
     -- keep-requires
-    (λ c κs. let start = c.before.before.before.before.before.before.before.before.before.before.before.before.before.before.before.before.before.before.before in omega (arith, start.pre.1.0.height))
+    (λ c κs. let start = c in omega (arith, start.requires.1.0.height))
     -- raised-requires
-    (λ c κs. let start = c.before.before.before.before.before.before.before.before.before.before.before.before.before.before.before.before.before.before.before.before.before.before.before.before in omega (arith, start.pre.1.0.height))
+    (λ c κs. let start = c in omega (arith, start.requires.1.0.height))
     -- expr-requires-2
-    (λ c κs. let after-keep = c.before.before.before.before.before in
-    let after-expr = after-keep.before.before.before.before.before.before in let after-fresh = after-expr.before.before.before in
-    let after-node-at3 = after-fresh.before in let after_minus = after-node-at3.before.before in let after-node-at2 = after_minus.before in
-    let after-node-at = after-node-at2.before.before in let start = after-node-at.before.before.before.before.before in
-    both (omega (arith, start.pre.0, left_at))
-    (ready_at c.raised.ensures (for-limit _ _ _ after-node-at.Node-at.ensures after-node-at2.node-at2.ensures
-    after_minus.minus.ensures after-node-at3.node-at3.ensures start.pre.1.1.is _ after-fresh.fresh.ensures
-    after-expr.expr.ensures after-keep.keep.ensures start.pre.1.0)))
+    (λ c κs. let after-keep = c in
+    let after-expr = after-keep in let after-fresh = after-expr in
+    let after-node-at3 = after-fresh in let after_minus = after-node-at3 in let after-node-at2 = after_minus in
+    let after-node-at = after-node-at2 in let start = after-node-at in
+    both (omega (arith, start.requires.0, left_at))
+    (ready_at c.raised.ensures (for-limit _ _ _ after-node-at.node_at-n.ensures after-node-at2.node_at-body.ensures
+    after_minus.minus-limit_end.ensures after-node-at3.node_at-limit.ensures start.requires.1.1.is _ after-fresh.fresh-a.ensures
+    after-expr.expr-b.ensures after-keep.keep-c.ensures start.requires.1.0)))
     -- add-keep
-    (λ c. let start = c.before.before.before.before.before.before.before.before.before.before.before.before.before.before.before.before.before.before.before.before.before.before.before.before.before.before.before.before.before.before.before.before in
-    omega (arith, start.pre.1.0.height))
+    (λ c. let start = c in
+    omega (arith, start.requires.1.0.height))
     -- keep-requires-2
-    (λ c κs. let start = c.before.before.before.before.before.before.before.before.before.before.before.before.before.before.before.before.before.before.before.before.before.before.before.before.before.before.before.before.before.before.before.before in
-    omega (arith, start.pre.1.0.height))
+    (λ c κs. let start = c in
+    omega (arith, start.requires.1.0.height))
     -- by-constant-requires
-    (λ c κs. let after-node-at2 = c.before.before.before.before.before.before.before.before.before.before.before.before.before.before.before.before.before.before.before.before.before.before.before.before.before.before.before.before.before in
-    let after-node-at = after-node-at2.before.before in let start = after-node-at.before.before.before.before.before in
-    omega (arith, after-node-at2.node-at2.ensures.start, after-node-at.Node-at.ensures.inner, start.pre.1.0.small))
-    (λ c _. c.by-constant.ensures.fits)
+    (λ c κs. let after-node-at2 = c in
+    let after-node-at = after-node-at2 in let start = after-node-at in
+    omega (arith, after-node-at2.node_at-body.ensures.start, after-node-at.node_at-n.ensures.inner, start.requires.1.0.small))
+    (λ c _. c.by_constant-by.ensures.fits)
     -- for-test-requires
-    (λ c κs. let start = c.before.before.before.before.before.before.before.before.before.before.before.before.before.before.before.before.before.before.before.before.before.before.before.before.before.before.before.before.before.before.before.before.before.before.before.before.before.before.before in (omega (arith, start.pre.1.0.height), omega (arith, start.pre.1.0.label)))
+    (λ c κs. let start = c in (omega (arith, start.requires.1.0.height), omega (arith, start.requires.1.0.label)))
     -- push-requires
     (λ c κs. let h : ForToTested t = search in let y = (for-to-start t h).pre.1.0 in
-    let k = h.before.before.before.before.before.before.before.before.before.before.before.before.before.before.expr2.kept in
-    let l = h.before.before.before.before.before.before.before.before.before.before.before.before.before.before.before.before.before.before.before.before.before.before.before.before.before.before.expr.kept in (omega (arith, for-to-room t h), omega arith, omega arith))
+    let k = h.expr-d.kept in
+    let l = h.expr-b.kept in (omega (arith, for-to-room t h), omega arith, omega arith))
     (λ c. let h : ForToTested t = search in let y = (for-to-start t h).pre.1.0 in omega (arith, for-to-room t h))
     (λ c. let y = (for-to-start t (search)).pre.1.0 in omega arith) (λ c. let y = (for-to-start t (search)).pre.1.0 in omega arith)
     -- push-name-requires
     (λ c κs. let h : ForToTested t = search in let y = (for-to-start t h).pre.1.0 in
-    let k = h.before.before.before.before.before.before.before.before.before.before.before.before.before.before.expr2.kept in
-    let l = h.before.before.before.before.before.before.before.before.before.before.before.before.before.before.before.before.before.before.before.before.before.before.before.before.before.before.expr.kept in
-    let n = h.before.before.before.before.before.before.before.before.before.before.before.before.before.before.before.before.before.before.before.before.before.before.before.before.before.before.before.before.before.before.before.before.before.before.before.Node-at.ensures in let f = let after_push = c.before.before.before.before.before in
-    let after-for-test = after_push.before.before.before.before in let after-blame = after-for-test.before.before in
-    let after-by-constant = after-blame.before in let after-keep2 = after-by-constant.before.before.before.before in
-    let after-expr2 = after-keep2.before.before.before.before.before.before.before in let after-raised = after-expr2.before in
-    let after-keep = after-raised.before.before.before.before.before in
-    let after-expr = after-keep.before.before.before.before.before.before in let after-fresh = after-expr.before.before.before in
-    let after-node-at3 = after-fresh.before in let after_minus = after-node-at3.before.before in let after-node-at2 = after_minus.before in
-    let after-node-at = after-node-at2.before.before in let start = after-node-at.before.before.before.before.before in
-    for-name-fine _ _ _ after-node-at.Node-at.ensures after-node-at2.node-at2.ensures after_minus.minus.ensures
-    after-node-at3.node-at3.ensures start.pre.1.1.is _ after-fresh.fresh.ensures after-expr.expr.ensures after-keep.keep.ensures
-    (gave_at _ after-raised.raised.ensures after-expr2.expr2.ensures) after-keep2.keep2.ensures after-by-constant.by-constant.ensures
-    after-blame.blame.ensures after-for-test.for-test.ensures after_push.push.ensures start.pre.1.0 in
+    let k = h.expr-d.kept in
+    let l = h.expr-b.kept in
+    let n = h.node_at-n.ensures in let f = let after_push = c in
+    let after-for-test = after_push in let after-blame = after-for-test in
+    let after-by-constant = after-blame in let after-keep2 = after-by-constant in
+    let after-expr2 = after-keep2 in let after-raised = after-expr2 in
+    let after-keep = after-raised in
+    let after-expr = after-keep in let after-fresh = after-expr in
+    let after-node-at3 = after-fresh in let after_minus = after-node-at3 in let after-node-at2 = after_minus in
+    let after-node-at = after-node-at2 in let start = after-node-at in
+    for-name-fine _ _ _ after-node-at.node_at-n.ensures after-node-at2.node_at-body.ensures after_minus.minus-limit_end.ensures
+    after-node-at3.node_at-limit.ensures start.requires.1.1.is _ after-fresh.fresh-a.ensures after-expr.expr-b.ensures after-keep.keep-c.ensures
+    (gave_at _ after-raised.raised.ensures after-expr2.expr-d.ensures) after-keep2.keep-e.ensures after-by-constant.by_constant-by.ensures
+    after-blame.blame-f.ensures after-for-test.for_test-g.ensures after_push.push.ensures start.requires.1.0 in
     (omega (arith, for-to-room t h), omega arith, omega arith, f))
     (λ c. let h : ForToTested t = search in let y = (for-to-start t h).pre.1.0 in omega (arith, for-to-room t h))
     (λ c. let y = (for-to-start t (search)).pre.1.0 in omega arith) (λ c κs. omega arith)
     (λ c. let y = (for-to-start t (search)).pre.1.0 in omega arith) (λ c. let y = (for-to-start t (search)).pre.1.0 in omega arith)
     (λ c κs. omega arith)
     -- command-requires
-    (λ c κs. let after-set-at = c.before.before.before.before.before in
-    let after-push-name = after-set-at.before.before.before.before.before in
-    let after_push = after-push-name.before.before.before.before.before.before in
-    let after-for-test = after_push.before.before.before.before in let after-blame = after-for-test.before.before in
-    let after-by-constant = after-blame.before in let after-keep2 = after-by-constant.before.before.before.before in
-    let after-expr2 = after-keep2.before.before.before.before.before.before.before in let after-raised = after-expr2.before in
-    let after-keep = after-raised.before.before.before.before.before in
-    let after-expr = after-keep.before.before.before.before.before.before in let after-fresh = after-expr.before.before.before in
-    let after-node-at3 = after-fresh.before in let after_minus = after-node-at3.before.before in let after-node-at2 = after_minus.before in
-    let after-node-at = after-node-at2.before.before in let start = after-node-at.before.before.before.before.before in
-    both (omega (arith, start.pre.0, left_at)) (ready_at after-set-at.set_at.ensures
-    (for-body _ _ _ after-node-at.Node-at.ensures after-node-at2.node-at2.ensures after_minus.minus.ensures
-    after-node-at3.node-at3.ensures start.pre.1.1.is _ after-fresh.fresh.ensures after-expr.expr.ensures after-keep.keep.ensures
-    (gave_at _ after-raised.raised.ensures after-expr2.expr2.ensures) after-keep2.keep2.ensures after-by-constant.by-constant.ensures
-    after-blame.blame.ensures after-for-test.for-test.ensures after_push.push.ensures after-push-name.push-name.ensures refl
-    start.pre.1.0)))
-    (λ c κs. let y = (for-to-start t c.before.before.before.before.before.before.before.before.before.before.before.before.before.before.before.before.before.before.before.before.before.before.before.before.before.before).pre.1.0 in (omega arith, omega arith))
+    (λ c κs. let after-set-at = c in
+    let after-push-name = after-set-at in
+    let after_push = after-push-name in
+    let after-for-test = after_push in let after-blame = after-for-test in
+    let after-by-constant = after-blame in let after-keep2 = after-by-constant in
+    let after-expr2 = after-keep2 in let after-raised = after-expr2 in
+    let after-keep = after-raised in
+    let after-expr = after-keep in let after-fresh = after-expr in
+    let after-node-at3 = after-fresh in let after_minus = after-node-at3 in let after-node-at2 = after_minus in
+    let after-node-at = after-node-at2 in let start = after-node-at in
+    both (omega (arith, start.requires.0, left_at)) (ready_at after-set-at.set_at-inner.ensures
+    (for-body _ _ _ after-node-at.node_at-n.ensures after-node-at2.node_at-body.ensures after_minus.minus-limit_end.ensures
+    after-node-at3.node_at-limit.ensures start.requires.1.1.is _ after-fresh.fresh-a.ensures after-expr.expr-b.ensures after-keep.keep-c.ensures
+    (gave_at _ after-raised.raised.ensures after-expr2.expr-d.ensures) after-keep2.keep-e.ensures after-by-constant.by_constant-by.ensures
+    after-blame.blame-f.ensures after-for-test.for_test-g.ensures after_push.push.ensures after-push-name.push_name.ensures refl
+    start.requires.1.0)))
+    (λ c κs. let y = (for-to-start t c).pre.1.0 in (omega arith, omega arith))
     -- same-length
-    (λ c. let after-command = c.before.before.before.before.before.before.before.before in
-    let after-push-name = after-command.before.before.before.before.before.before.before.before.before.before.before in
-    let after_push = after-push-name.before.before.before.before.before.before in
-    let after-expr2 = after_push.before.before.before.before.before.before.before.before.before.before.before.before.before.before.before.before.before.before in let after-expr
-    = after-expr2.before.before.before.before.before.before.before.before.before.before.before.before in
-    after-command.command.kept.1.0 ∙ after-push-name.push-name.kept.0 ∙ after_push.push.kept.0 ∙ after-expr2.expr2.kept.1.0
-    ∙ after-expr.expr.kept.1.0)
+    (λ c. let after-command = c in
+    let after-push-name = after-command in
+    let after_push = after-push-name in
+    let after-expr2 = after_push in let after-expr
+    = after-expr2 in
+    after-command.command-h.kept.1.0 ∙ after-push-name.push_name.kept.0 ∙ after_push.push.kept.0 ∙ after-expr2.expr-d.kept.1.0
+    ∙ after-expr.expr-b.kept.1.0)
     -- same-length-2
-    (λ c. let after-command = c.before.before.before.before.before.before.before.before in
-    let after-for-test = after-command.before.before.before.before.before.before.before.before.before.before.before.before.before.before.before.before.before.before.before.before.before in
-    let after-keep2 = after-for-test.before.before.before.before.before.before.before in
-    let after-expr2 = after-keep2.before.before.before.before.before.before.before in
-    let after-keep = after-expr2.before.before.before.before.before.before in
-    let after-expr = after-keep.before.before.before.before.before.before in
-    c.before.before.for-step.kept.0 ∙ after-command.command.kept.1.1.1.0 ∙ after-for-test.for-test.kept.0 ∙ after-keep2.keep2.kept.0
-    ∙ after-expr2.expr2.kept.1.1.1.0 ∙ after-keep.keep.kept.0 ∙ after-expr.expr.kept.1.1.1.0)
+    (λ c. let after-command = c in
+    let after-for-test = after-command in
+    let after-keep2 = after-for-test in
+    let after-expr2 = after-keep2 in
+    let after-keep = after-expr2 in
+    let after-expr = after-keep in
+    c.for_step.kept.0 ∙ after-command.command-h.kept.1.1.1.0 ∙ after-for-test.for_test-g.kept.0 ∙ after-keep2.keep-e.kept.0
+    ∙ after-expr2.expr-d.kept.1.1.1.0 ∙ after-keep.keep-c.kept.0 ∙ after-expr.expr-b.kept.1.1.1.0)
     -- returns
-    (λ c. let after-command = c.before.before.before.before.before.before.before.before in let after-in-loop = after-command.before in
-    let after-set-at = after-in-loop.before.before.before.before.before in
-    let after-push-name = after-set-at.before.before.before.before.before in
-    let after_push = after-push-name.before.before.before.before.before.before in
-    let after-for-test = after_push.before.before.before.before in let after-blame = after-for-test.before.before in
-    let after-by-constant = after-blame.before in let after-keep2 = after-by-constant.before.before.before.before in
-    let after-expr2 = after-keep2.before.before.before.before.before.before.before in let after-raised = after-expr2.before in
-    let after-keep = after-raised.before.before.before.before.before in
-    let after-expr = after-keep.before.before.before.before.before.before in let after-fresh = after-expr.before.before.before in
-    let after-node-at3 = after-fresh.before in let after_minus = after-node-at3.before.before in let after-node-at2 = after_minus.before in
-    let after-node-at = after-node-at2.before.before in let start = after-node-at.before.before.before.before.before in
-    for-gave _ _ _ after-node-at.Node-at.ensures after-node-at2.node-at2.ensures after_minus.minus.ensures
-    after-node-at3.node-at3.ensures start.pre.1.1.is _ after-fresh.fresh.ensures after-expr.expr.ensures after-keep.keep.ensures
-    (gave_at _ after-raised.raised.ensures after-expr2.expr2.ensures) after-keep2.keep2.ensures after-by-constant.by-constant.ensures
-    after-blame.blame.ensures after-for-test.for-test.ensures after_push.push.ensures after-push-name.push-name.ensures refl _
-    (gave-c-at _ after-set-at.set_at.ensures after-in-loop.in-loop.ensures after-command.command.ensures)
-    c.before.before.for-step.ensures)
+    (λ c. let after-command = c in let after-in-loop = after-command in
+    let after-set-at = after-in-loop in
+    let after-push-name = after-set-at in
+    let after_push = after-push-name in
+    let after-for-test = after_push in let after-blame = after-for-test in
+    let after-by-constant = after-blame in let after-keep2 = after-by-constant in
+    let after-expr2 = after-keep2 in let after-raised = after-expr2 in
+    let after-keep = after-raised in
+    let after-expr = after-keep in let after-fresh = after-expr in
+    let after-node-at3 = after-fresh in let after_minus = after-node-at3 in let after-node-at2 = after_minus in
+    let after-node-at = after-node-at2 in let start = after-node-at in
+    for-gave _ _ _ after-node-at.node_at-n.ensures after-node-at2.node_at-body.ensures after_minus.minus-limit_end.ensures
+    after-node-at3.node_at-limit.ensures start.requires.1.1.is _ after-fresh.fresh-a.ensures after-expr.expr-b.ensures after-keep.keep-c.ensures
+    (gave_at _ after-raised.raised.ensures after-expr2.expr-d.ensures) after-keep2.keep-e.ensures after-by-constant.by_constant-by.ensures
+    after-blame.blame-f.ensures after-for-test.for_test-g.ensures after_push.push.ensures after-push-name.push_name.ensures refl _
+    (gave-c-at _ after-set-at.set_at-inner.ensures after-in-loop.in_loop.ensures after-command.command-h.ensures)
+    c.for_step.ensures)
 
 abbrev form-cs : ℕ → cycle.Lts-form.Claims
 form-cs t = three (steps.put_to.Reads.Asked, steps.put_to.Reads.Learnt) (calls expr t) (steps.jump_when.Reads.Asked, steps.jump_when.Reads.Learnt)
 
 pub form-ok : {M : Type 1} (t : ℕ) → cycle.Lts-form.Closed (form-cs t) (at form t) (rank form).post M
 form-ok t = cycle.Lts-form.spec (form-cs t) (at form t) (rank form).post (λ c κs. omega arith) (λ c. omega arith) (λ c. search form-alone)
-    (λ c κs. (omega arith, c.before.before.before.before.before.before.pre.1.on c.before.before.if1.left)) (λ c κs. omega arith)
+    (λ c κs. (omega arith, c.requires.1.on c.if-size-eq0.false)) (λ c κs. omega arith)
     (λ c κs. omega arith) (λ c. omega arith) (λ c. omega arith) (λ c. search form-tested)
 
 abbrev forms-cs : ℕ → cycle.Lts-forms.Claims
 forms-cs t = four (proofs.scope.entry.Reads.Asked, proofs.scope.entry.Reads.Learnt) (steps.mark.Reads.Asked, steps.mark.Reads.Learnt) (calls form t)
     (steps.minus.Reads.Asked, steps.minus.Reads.Learnt)
 
-abbrev forms-Inv-loop : cycle.Lts-forms.InvT-loop
+abbrev forms-Inv-loop : cycle.Lts-forms.invariant-loop-at
 forms-Inv-loop source s₀ from end text₀ here innermost at₀ own₀ r₀ s text at own r =
     (length s ≡ length s₀) × (length text ≡ length text₀) × (own ≤ innermost) ×
     ((y : ReadyForms s₀ from end here r₀) → FormsPart source text₀ innermost y s text at own r)
@@ -228,29 +228,29 @@ forms-ok t = cycle.Lts-forms.spec (forms-cs t) (at forms t) (rank forms).post fo
     (λ source s₀ from end text₀ here innermost at₀ own₀ r₀ s text at own r. end - at) (λ c. search (needs, forms-begin)) (λ c κs. omega arith)
     (λ c. omega arith) (λ c κs. omega arith) (λ c. omega arith) (λ c. omega arith) (λ c. omega arith) (λ c κs. omega arith)
     -- form-requires
-    (λ c κs. let after-mark = c.before.before.before.before in let after-entry2 = after-mark.before.before in
-    let after-entry = after-entry2.before.before in let after-loop-test = after-entry.before.before in let after-loop = after-loop-test.before in
-    let start = after-loop.before.before.before.before in
-    both (omega (arith, start.pre.0)) (forms-part _ _ _ after-loop-test.loop-test.taken after-entry.entry.ensures.0
-    after-entry2.entry2.ensures.0 refl after-mark.mark.ensures.label start.pre.1.0 (after-loop.loop.inv.3 start.pre.1.0)))
+    (λ c κs. let after-mark = c in let after-entry2 = after-mark in
+    let after-entry = after-entry2 in let after-loop-test = after-entry in let after-loop = after-loop-test in
+    let start = after-loop in
+    both (omega (arith, start.requires.0)) (forms-part _ _ _ after-loop-test.loop-at-test.true after-entry.entry-size.ensures.0
+    after-entry2.entry-word.ensures.0 refl after-mark.mark-a.ensures.label start.requires.1.0 (after-loop.loop-at.invariant.3 start.requires.1.0)))
     -- add-mark-2
-    (λ c. let after-loop = c.before.before.before.before.before.before.before.before.before.before.before.before.before.before.before.before.before in let start = after-loop.before.before.before.before in omega (arith, after-loop.loop.inv.2, start.pre.1.1))
+    (λ c. let after-loop = c in let start = after-loop in omega (arith, after-loop.loop-at.invariant.2, start.requires.1.1))
     (λ c κs. omega arith) (λ c κs. omega arith)
     -- loop-less
-    (λ c. let after-loop-test = c.before.before.before.before.before.before.before.before.before.before.before.before.before.before.before.before.before.before.before.before in omega (arith, after-loop-test.loop-test.taken))
+    (λ c. let after-loop-test = c in omega (arith, after-loop-test.loop-at-test.true))
     -- loop-again
-    (λ c. let after-mark2 = c.before.before.before in let after-form = after-mark2.before.before.before.before.before.before in
-    let after-mark = after-form.before.before.before.before.before in let after-entry2 = after-mark.before.before in
-    let after-entry = after-entry2.before.before in let after-loop-test = after-entry.before.before in
-    let after-loop = after-loop-test.before in let start = after-loop.before.before.before.before in (
-      after-form.form.kept.1.0 ∙ after-loop.loop.inv.0,
-      after-mark2.mark2.kept.0 ∙ after-form.form.kept.1.1.1.0 ∙ after-mark.mark.kept.0 ∙ after-loop.loop.inv.1,
-      omega (arith, after-loop.loop.inv.2),
+    (λ c. let after-mark2 = c in let after-form = after-mark2 in
+    let after-mark = after-form in let after-entry2 = after-mark in
+    let after-entry = after-entry2 in let after-loop-test = after-entry in
+    let after-loop = after-loop-test in let start = after-loop in (
+      after-form.form-b.kept.1.0 ∙ after-loop.loop-at.invariant.0,
+      after-mark2.mark-r.kept.0 ∙ after-form.form-b.kept.1.1.1.0 ∙ after-mark.mark-a.kept.0 ∙ after-loop.loop-at.invariant.1,
+      omega (arith, after-loop.loop-at.invariant.2),
       λ y. forms-next _ _
-          start.args.innermost after-loop-test.loop-test.taken after-entry.entry.ensures.0 after-entry2.entry2.ensures.0 refl
-          after-mark.mark.ensures after-form.form.ensures after-mark2.mark2.ensures c.minus.ensures y (after-loop.loop.inv.3 y),
+          start.args.innermost after-loop-test.loop-at-test.true after-entry.entry-size.ensures.0 after-entry2.entry-word.ensures.0 refl
+          after-mark.mark-a.ensures after-form.form-b.ensures after-mark2.mark-r.ensures c.minus-own.ensures y (after-loop.loop-at.invariant.3 y),
     ))
-    (λ c. c.before.loop.inv.0) (λ c. c.before.loop.inv.1) (λ c. forms-end _ _ _ c.loop-test.left c.before.loop.inv.3)
+    (λ c. c.loop-at.invariant.0) (λ c. c.loop-at.invariant.1) (λ c. forms-end _ _ _ c.loop-at-test.false c.loop-at.invariant.3)
 
 abbrev repeated-cs : ℕ → cycle.Lts-repeated.Claims
 repeated-cs t = eight (steps.node_at.Reads.Asked, steps.node_at.Reads.Learnt) (steps.count.Reads.Asked, steps.count.Reads.Learnt)
@@ -270,29 +270,29 @@ repeated-ok t =
     (λ c. omega (arith, repeated-fit t (search))) (λ c κs. omega (arith, repeated-fit t (search))) (λ c κs. omega (arith, repeated-fit t (search)))
     (λ c. omega (arith, repeated-fit t (search))) (λ c. omega (arith, repeated-fit t (search))) (λ c κs. omega arith)
     -- plain-requires
-    (λ c κs. let after-tops = c.before.before.before.before.before in let after-fresh = after-tops.before.before in
-    let after-count = after-fresh.before.before.before in let after-if1 = after-count.before.before.before in
-    let after-node-at = after-if1.before.before in let start = after-node-at.before.before.before.before.before in
-    both (omega (arith, start.pre.0)) (repeated-body _ after-node-at.Node-at.ensures after-if1.if1.taken refl after-count.count.ensures
-    after-fresh.fresh.ensures after-tops.tops.ensures start.pre.1))
+    (λ c κs. let after-tops = c in let after-fresh = after-tops in
+    let after-count = after-fresh in let after-if1 = after-count in
+    let after-node-at = after-if1 in let start = after-node-at in
+    both (omega (arith, start.requires.0)) (repeated-body _ after-node-at.node_at-n.ensures after-if1.if-n-eq-REPEATED.true refl after-count.count-k.ensures
+    after-fresh.fresh-a.ensures after-tops.tops-b.ensures start.requires.1))
     -- forms-requires
-    (λ c κs. let after-plain = c.before.before.before.before.before.before in let after-in-loop = after-plain.before in
-    let after-tops = after-in-loop.before.before.before.before.before in let after-fresh = after-tops.before.before in
-    let after_minus = after-fresh.before in let after-count = after_minus.before.before in let after-if1 = after-count.before.before.before in
-    let after-node-at = after-if1.before.before in let start = after-node-at.before.before.before.before.before in
-    both (omega (arith, start.pre.0)) (both
-    (repeated-forms _ after-node-at.Node-at.ensures after-if1.if1.taken refl after-count.count.ensures after-fresh.fresh.ensures
-    after-tops.tops.ensures _ start.args.ways after_minus.minus.ensures
-    (gave-u-at _ refl after-in-loop.in-loop.ensures after-plain.plain.ensures) start.pre.1)
-    (omega (arith, repeated-fit t after-count, after_minus.minus.ensures))))
+    (λ c κs. let after-plain = c in let after-in-loop = after-plain in
+    let after-tops = after-in-loop in let after-fresh = after-tops in
+    let after_minus = after-fresh in let after-count = after_minus in let after-if1 = after-count in
+    let after-node-at = after-if1 in let start = after-node-at in
+    both (omega (arith, start.requires.0)) (both
+    (repeated-forms _ after-node-at.node_at-n.ensures after-if1.if-n-eq-REPEATED.true refl after-count.count-k.ensures after-fresh.fresh-a.ensures
+    after-tops.tops-b.ensures _ start.args.ways after_minus.minus-own.ensures
+    (gave-u-at _ refl after-in-loop.in_loop.ensures after-plain.plain-c.ensures) start.requires.1)
+    (omega (arith, repeated-fit t after-count, after_minus.minus-own.ensures))))
     (λ c. omega arith) (λ c. omega arith)
     -- returns
-    (λ c. let after-forms = c.before.before.before.before in
-    let after-plain = after-forms.before.before.before.before.before.before.before in let after-in-loop = after-plain.before in
-    let after-tops = after-in-loop.before.before.before.before.before in let after-fresh = after-tops.before.before in
-    let after_minus = after-fresh.before in let after-count = after_minus.before.before in let after-if1 = after-count.before.before.before in
-    let after-node-at = after-if1.before.before in
-    repeated-gave _ after-node-at.Node-at.ensures after-if1.if1.taken refl after-count.count.ensures after-fresh.fresh.ensures
-    after-tops.tops.ensures _ _ after_minus.minus.ensures (gave-u-at _ refl after-in-loop.in-loop.ensures after-plain.plain.ensures)
+    (λ c. let after-forms = c in
+    let after-plain = after-forms in let after-in-loop = after-plain in
+    let after-tops = after-in-loop in let after-fresh = after-tops in
+    let after_minus = after-fresh in let after-count = after_minus in let after-if1 = after-count in
+    let after-node-at = after-if1 in
+    repeated-gave _ after-node-at.node_at-n.ensures after-if1.if-n-eq-REPEATED.true refl after-count.count-k.ensures after-fresh.fresh-a.ensures
+    after-tops.tops-b.ensures _ _ after_minus.minus-own.ensures (gave-u-at _ refl after-in-loop.in_loop.ensures after-plain.plain-c.ensures)
     after-forms.forms.ensures)
     (λ c κs. search (needs, once-part)) (λ c. omega arith) (λ c. omega arith) (λ c. search once-gave)

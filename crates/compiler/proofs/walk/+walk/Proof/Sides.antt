@@ -22,24 +22,24 @@ pub address-ok : {M : Type 1} (t : ℕ) → cycle.Lts-address.Closed (address-cs
 address-ok t = cycle.Lts-address.spec (address-cs t) (at address t) (rank address).post (λ c κs. omega arith) (λ c κs. omega arith)
     (λ c κs. (omega (arith, left_at, some_left), (search (ready_at, bracket-part), omega arith))) (λ c κs. omega arith) (λ c κs. omega arith)
     (λ c κs. search needs) (λ c κs. omega arith)
-    (λ c κs. both (let falls = c.before.before.before.before.before.before.before.before.before.before.before.pre.0 in
+    (λ c κs. both (let falls = c.requires.0 in
     omega (arith, left_at, some_left)) (search (ready_at, monadic-part)))
     (λ c. omega arith) (λ c. omega arith) (λ c. search (address-pling, gave_at)) (λ c κs. search needs) (λ c κs. search needs) (λ c. omega arith)
     (λ c. omega arith) (λ c. search (address-open, gave-address-at)) (λ c. omega arith) (λ c. omega arith) (λ c. search address-name)
-    (λ c. omega arith) (λ c. omega arith) (λ c. c.before.before.before.before.located.ensures
-    c.before.before.before.before.before.before.before.before.before.before.before.before.before.args.place)
+    (λ c. omega arith) (λ c. omega arith) (λ c. c.located.ensures
+    c.args.place)
     (λ c. omega arith) (λ c. omega arith)
     -- returns-5
-    (λ c. let after-refuse = c.before.before.before.before in let after-if1 = after-refuse.before.before.before in
-    let after-match = after-if1.before.before in let after-node-at = after-match.before in
-    address-refused _ _ _ after-node-at.Node-at.ensures (omega (arith, after-match.match.keys4)) (λ e v. after-if1.if1.left v)
+    (λ c. let after-refuse = c in let after-if1 = after-refuse in
+    let after-match = after-if1 in let after-node-at = after-match in
+    address-refused _ _ _ after-node-at.node_at-n.ensures (omega (arith, after-match.in-128.is)) (λ e v. after-if1.if-n-eq-PLING.false v)
     after-refuse.refuse.ensures)
     (λ c. omega arith) (λ c. omega arith)
     -- returns-6
-    (λ c. let after-refuse2 = c.before.before.before.before in let after-match = after-refuse2.before.before.before in
-    let after-node-at = after-match.before in
-    address-refused _ _ _ after-node-at.Node-at.ensures after-match.match.rest.0 (λ e v. after-match.match.rest.1 e)
-    after-refuse2.refuse2.ensures)
+    (λ c. let after-refuse2 = c in let after-match = after-refuse2 in
+    let after-node-at = after-match in
+    address-refused _ _ _ after-node-at.node_at-n.ensures after-match.in_default.in_default-own.rest.0 (λ e v. after-match.in_default.in_default-own.rest.1 e)
+    after-refuse2.refuse-in_default.ensures)
 
 abbrev located-cs : ℕ → cycle.Lts-located.Claims
 located-cs t = nine (steps.node_at.Reads.Asked, steps.node_at.Reads.Learnt) (steps.minus.Reads.Asked, steps.minus.Reads.Learnt)
@@ -52,48 +52,48 @@ located-ok t =
     cycle.Lts-located.spec (located-cs t) (at located t) (rank located).post (λ c κs. omega arith) (λ c κs. omega arith) (λ c κs. omega arith)
     (λ c κs. omega arith) (λ c κs. omega arith) (λ c. omega arith)
     -- applied-requires
-    (λ c κs. let after-inside = c.before.before.before in let after-minus2 = after-inside.before in let after-entry = after-minus2.before in
-    let after_minus = after-entry.before.before in let after-node-at = after_minus.before in
-    let start = after-node-at.before.before.before.before.before in
-    both (omega (arith, start.pre.0, left_at, some_left, start.pre.1.0.small)) (suffixes-ready-at after-inside.inside.ensures
-    (address-left _ after-node-at.Node-at.ensures start.pre.1.1 refl after_minus.minus.ensures after-entry.entry.ensures.0
-    after-minus2.minus2.ensures start.pre.1.0)))
+    (λ c κs. let after-inside = c in let after-minus2 = after-inside in let after-entry = after-minus2 in
+    let after_minus = after-entry in let after-node-at = after_minus in
+    let start = after-node-at in
+    both (omega (arith, start.requires.0, left_at, some_left, start.requires.1.0.small)) (suffixes-ready-at after-inside.inside-deep.ensures
+    (address-left _ after-node-at.node_at-n.ensures start.requires.1.1 refl after_minus.minus-inner.ensures after-entry.entry.ensures.0
+    after-minus2.minus-start.ensures start.requires.1.0)))
     -- keep-requires
-    (λ c κs. let start = c.before.before.before.before.before.before.before.before.before.before.before.before.before.before.before.before.before.before.before in omega (arith, start.pre.1.0.height))
+    (λ c κs. let start = c in omega (arith, start.requires.1.0.height))
     -- raised-requires
-    (λ c κs. let after-inside = c.before.before.before.before.before.before.before.before.before.before.before.before.before.before in
-    let start = after-inside.before.before.before.before.before.before.before.before.before.before in
-    omega (arith, start.pre.1.0.height, ap (λ (x : Here). x.height) after-inside.inside.ensures))
+    (λ c κs. let after-inside = c in
+    let start = after-inside in
+    omega (arith, start.requires.1.0.height, ap (λ (x : Here). x.height) after-inside.inside-deep.ensures))
     -- expr-requires
-    (λ c κs. let after-keep = c.before.before.before.before.before in
-    let after-applied = after-keep.before.before.before.before.before.before in
-    let after-inside = after-applied.before.before.before.before in let after-minus2 = after-inside.before in
-    let after-entry = after-minus2.before in let after_minus = after-entry.before.before in let after-node-at = after_minus.before in
-    let start = after-node-at.before.before.before.before.before in
-    both (omega (arith, start.pre.0, left_at, some_left)) (ready_at (c.raised.ensures ∙ ap (raised 1) after-inside.inside.ensures)
-    (address-right _ after-node-at.Node-at.ensures start.pre.1.1 refl after_minus.minus.ensures after-entry.entry.ensures.0
-    after-minus2.minus2.ensures _ (suffixes-gave-at after-inside.inside.ensures after-applied.applied.ensures) after-keep.keep.ensures
-    start.pre.1.0)))
+    (λ c κs. let after-keep = c in
+    let after-applied = after-keep in
+    let after-inside = after-applied in let after-minus2 = after-inside in
+    let after-entry = after-minus2 in let after_minus = after-entry in let after-node-at = after_minus in
+    let start = after-node-at in
+    both (omega (arith, start.requires.0, left_at, some_left)) (ready_at (c.raised.ensures ∙ ap (raised 1) after-inside.inside-deep.ensures)
+    (address-right _ after-node-at.node_at-n.ensures start.requires.1.1 refl after_minus.minus-inner.ensures after-entry.entry.ensures.0
+    after-minus2.minus-start.ensures _ (suffixes-gave-at after-inside.inside-deep.ensures after-applied.applied-a.ensures) after-keep.keep-b.ensures
+    start.requires.1.0)))
     (λ c κs. omega arith)
     -- same-length
-    (λ c. c.before.before.before.before.before.before.before.before.expr.kept.1.0
-    ∙ c.before.before.before.before.before.before.before.before.before.before.before.before.before.before.before.before.before.before.before.before.applied.kept.1.0)
+    (λ c. c.expr-c.kept.1.0
+    ∙ c.applied-a.kept.1.0)
     -- same-length-2
-    (λ c. let after-expr = c.before.before.before.before.before.before.before.before in
-    let after-keep = after-expr.before.before.before.before.before.before in
-    let after-applied = after-keep.before.before.before.before.before.before in
-    c.before.before.put.kept.0 ∙ after-expr.expr.kept.1.1.1.0 ∙ after-keep.keep.kept.0 ∙ after-applied.applied.kept.1.1.1.1.0)
+    (λ c. let after-expr = c in
+    let after-keep = after-expr in
+    let after-applied = after-keep in
+    c.put.kept.0 ∙ after-expr.expr-c.kept.1.1.1.0 ∙ after-keep.keep-b.kept.0 ∙ after-applied.applied-a.kept.1.1.1.1.0)
     -- returns
-    (λ c. let after-expr = c.before.before.before.before.before.before.before.before in let after-raised = after-expr.before in
-    let after-keep = after-raised.before.before.before.before.before in
-    let after-applied = after-keep.before.before.before.before.before.before in
-    let after-inside = after-applied.before.before.before.before in let after-minus2 = after-inside.before in
-    let after-entry = after-minus2.before in let after_minus = after-entry.before.before in let after-node-at = after_minus.before in
-    let start = after-node-at.before.before.before.before.before in
-    address-index-gave _ after-node-at.Node-at.ensures start.pre.1.1 refl after_minus.minus.ensures after-entry.entry.ensures.0
-    after-minus2.minus2.ensures _ (suffixes-gave-at after-inside.inside.ensures after-applied.applied.ensures) after-keep.keep.ensures
-    (gave_at _ (after-raised.raised.ensures ∙ ap (raised 1) after-inside.inside.ensures) after-expr.expr.ensures)
-    c.before.before.put.ensures)
+    (λ c. let after-expr = c in let after-raised = after-expr in
+    let after-keep = after-raised in
+    let after-applied = after-keep in
+    let after-inside = after-applied in let after-minus2 = after-inside in
+    let after-entry = after-minus2 in let after_minus = after-entry in let after-node-at = after_minus in
+    let start = after-node-at in
+    address-index-gave _ after-node-at.node_at-n.ensures start.requires.1.1 refl after_minus.minus-inner.ensures after-entry.entry.ensures.0
+    after-minus2.minus-start.ensures _ (suffixes-gave-at after-inside.inside-deep.ensures after-applied.applied-a.ensures) after-keep.keep-b.ensures
+    (gave_at _ (after-raised.raised.ensures ∙ ap (raised 1) after-inside.inside-deep.ensures) after-expr.expr-c.ensures)
+    c.put.ensures)
 
 abbrev refuse-cs : ℕ → cycle.Lts-refuse.Claims
 refuse-cs t = (below expr t, (rank expr).post, steps.wrong.Reads.Asked, steps.wrong.Reads.Learnt)
@@ -111,47 +111,47 @@ side-cs t = eleven (steps.node_at.Reads.Asked, steps.node_at.Reads.Learnt) (step
 pub side-ok : {M : Type 1} (t : ℕ) → cycle.Lts-side.Closed (side-cs t) (at side t) (rank side).post M
 side-ok t = cycle.Lts-side.spec (side-cs t) (at side t) (rank side).post (λ c κs. omega arith) (λ c κs. omega arith)
     -- side-requires
-    (λ c κs. let after-match = c.before.before.before in let after-node-at = after-match.before in
-    let start = after-node-at.before.before.before.before.before in
+    (λ c κs. let after-match = c in let after-node-at = after-match in
+    let start = after-node-at in
     both (omega (arith, left_at, some_left)) (both
-    (ready_at (ap (raised 1) c.inside.ensures) (bracket-part _ after-node-at.Node-at.ensures after-match.match.keys1 start.pre.1.0))
-    start.pre.1.1))
+    (ready_at (ap (raised 1) c.inside.ensures) (bracket-part _ after-node-at.node_at-n.ensures after-match.in-51.is start.requires.1.0))
+    start.requires.1.1))
     (λ c κs. omega arith) (λ c κs. omega arith) (λ c κs. search needs) (λ c κs. omega arith) (λ c κs. omega arith)
     -- raised-requires
-    (λ c κs. let height = c.before.before.before.before.before.before.before.before.before.before.before.before.before.before.before.pre.1.0.height in let same-height = ap (λ (x : Here). x.height) c.inside2.ensures in omega arith)
+    (λ c κs. let height = c.requires.1.0.height in let same-height = ap (λ (x : Here). x.height) c.inside-then-n-eq-PLING.ensures in omega arith)
     -- expr-requires
-    (λ c κs. let after-keep = c.before.before.before.before.before.before in let after-match = after-keep.before.before.before.before in
-    let after-node-at = after-match.before in let start = after-node-at.before.before.before.before.before in
-    both (omega (arith, start.pre.0, left_at, some_left)) (ready_at (c.raised.ensures ∙ ap (raised 1) c.before.inside2.ensures)
-    (side-part [] 0 _ after-node-at.Node-at.ensures after-match.match.keys4 after-keep.keep.ensures start.pre.1.0)))
+    (λ c κs. let after-keep = c in let after-match = after-keep in
+    let after-node-at = after-match in let start = after-node-at in
+    both (omega (arith, start.requires.0, left_at, some_left)) (ready_at (c.raised.ensures ∙ ap (raised 1) c.inside-then-n-eq-PLING.ensures)
+    (side-part [] 0 _ after-node-at.node_at-n.ensures after-match.in-128.is after-keep.keep-a.ensures start.requires.1.0)))
     -- store-through-requires
-    (λ c κs. let start = c.before.before.before.before.before.before.before.before.before.before.before.before.before.before.before.before.before.before.before.before.before.before in omega (arith, start.pre.1.0.height))
+    (λ c κs. let start = c in omega (arith, start.requires.1.0.height))
     (λ c. omega arith) (λ c. omega arith)
     -- returns
-    (λ c. let after-expr = c.before.before.before.before.before.before.before.before in let after-raised = after-expr.before in
-    let after-inside2 = after-raised.before in let after-keep = after-inside2.before.before.before.before.before in
-    let after-if1 = after-keep.before.before in let after-match = after-if1.before.before in let after-node-at = after-match.before in
-    side-pling _ _ _ after-node-at.Node-at.ensures after-match.match.keys4 after-keep.keep.ensures after-if1.if1.taken
-    (gave_at _ (after-raised.raised.ensures ∙ ap (raised 1) after-inside2.inside2.ensures) after-expr.expr.ensures)
-    c.before.before.store-through.ensures)
+    (λ c. let after-expr = c in let after-raised = after-expr in
+    let after-inside2 = after-raised in let after-keep = after-inside2 in
+    let after-if1 = after-keep in let after-match = after-if1 in let after-node-at = after-match in
+    side-pling _ _ _ after-node-at.node_at-n.ensures after-match.in-128.is after-keep.keep-a.ensures after-if1.if-n-eq-PLING.true
+    (gave_at _ (after-raised.raised.ensures ∙ ap (raised 1) after-inside2.inside-then-n-eq-PLING.ensures) after-expr.expr-b.ensures)
+    c.store_through.ensures)
     (λ c κs. omega arith)
-    (λ c κs. both (omega (arith, c.before.before.before.before.before.before.before.before.before.before.before.pre.0, left_at))
+    (λ c κs. both (omega (arith, c.requires.0, left_at))
     (search ready_at)) (λ c κs. omega arith) (λ c κs. (omega (arith, left_at), (search ready_at, omega arith))) (λ c. omega arith) (λ c. omega arith)
     (λ c. search (side-open, gave-side-at)) (λ c. omega arith) (λ c. omega arith) (λ c. search side-name) (λ c. omega arith) (λ c. omega arith)
-    (λ c. c.before.before.before.before.stored.ensures
-    c.before.before.before.before.before.before.before.before.before.before.before.before.before.args.place)
+    (λ c. c.stored.ensures
+    c.args.place)
     (λ c. omega arith) (λ c. omega arith)
     -- returns-5
-    (λ c. let after-refuse = c.before.before.before.before in let after-raised2 = after-refuse.before in
-    let after-if1 = after-raised2.before.before.before in let after-match = after-if1.before.before in let after-node-at = after-match.before in
-    side-refused _ _ _ _ after-node-at.Node-at.ensures (omega (arith, after-match.match.keys4)) (λ e v. after-if1.if1.left v)
-    (gave-refused-at after-raised2.raised2.ensures after-refuse.refuse.ensures))
+    (λ c. let after-refuse = c in let after-raised2 = after-refuse in
+    let after-if1 = after-raised2 in let after-match = after-if1 in let after-node-at = after-match in
+    side-refused _ _ _ _ after-node-at.node_at-n.ensures (omega (arith, after-match.in-128.is)) (λ e v. after-if1.if-n-eq-PLING.false v)
+    (gave-refused-at after-raised2.raised-in-128.ensures after-refuse.refuse.ensures))
     (λ c. omega arith) (λ c. omega arith)
     -- returns-6
-    (λ c. let after-refuse2 = c.before.before.before.before in let after-raised3 = after-refuse2.before in
-    let after-match = after-raised3.before.before.before in let after-node-at = after-match.before in
-    side-refused _ _ _ _ after-node-at.Node-at.ensures after-match.match.rest.0 (λ e v. after-match.match.rest.1 e)
-    (gave-refused-at after-raised3.raised3.ensures after-refuse2.refuse2.ensures))
+    (λ c. let after-refuse2 = c in let after-raised3 = after-refuse2 in
+    let after-match = after-raised3 in let after-node-at = after-match in
+    side-refused _ _ _ _ after-node-at.node_at-n.ensures after-match.in_default.in_default-own.rest.0 (λ e v. after-match.in_default.in_default-own.rest.1 e)
+    (gave-refused-at after-raised3.raised-in_default.ensures after-refuse2.refuse-in_default.ensures))
 
 abbrev stored-cs : ℕ → cycle.Lts-stored.Claims
 stored-cs t = nine (steps.node_at.Reads.Asked, steps.node_at.Reads.Learnt) (steps.minus.Reads.Asked, steps.minus.Reads.Learnt)
@@ -162,83 +162,83 @@ stored-cs t = nine (steps.node_at.Reads.Asked, steps.node_at.Reads.Learnt) (step
 pub stored_ok : {M : Type 1} (t : ℕ) → cycle.Lts-stored.Closed (stored-cs t) (at stored t) (rank stored).post M
 stored_ok t = cycle.Lts-stored.spec (stored-cs t) (at stored t) (rank stored).post (λ c κs. omega arith) (λ c κs. omega arith) (λ c κs. omega arith)
     (λ c κs. omega arith) (λ c κs. omega arith)
-    (λ c κs. let height = c.before.before.before.before.before.before.before.before.before.before.pre.1.0.height in
+    (λ c κs. let height = c.requires.1.0.height in
     let same-height = ap (λ (x : Here). x.height) c.inside.ensures in omega arith) (λ c κs. omega arith)
     -- add-applied
-    (λ c. let after-node-at = c.before.before.before.before.before.before.before.before.before.before.before.before in
-    let start = after-node-at.before.before.before.before.before in
-    omega (arith, after-node-at.Node-at.ensures.value_fits, after-node-at.Node-at.ensures.start, start.pre.1.0.small))
+    (λ c. let after-node-at = c in
+    let start = after-node-at in
+    omega (arith, after-node-at.node_at-n.ensures.value_fits, after-node-at.node_at-n.ensures.start, start.requires.1.0.small))
     -- applied-requires
-    (λ c κs. let after-keep = c.before.before.before.before.before in let after-raised = after-keep.before.before in
-    let after-inside = after-raised.before in let after-minus2 = after-inside.before in let after-entry = after-minus2.before in
-    let after_minus = after-entry.before.before in let after-node-at = after_minus.before in
-    let start = after-node-at.before.before.before.before.before in
-    both (let falls = start.pre.0 in let left = left_at after-raised.raised.ensures in let left2 = left_at after-inside.inside.ensures in
-    let some = some_left start.pre.1.0 in let small = start.pre.1.0.small in let inner = after-node-at.Node-at.ensures.inner in
-    let minus_is = after_minus.minus.ensures in let minus2-is = after-minus2.minus2.ensures in
-    omega arith) (suffixes-ready-at (after-raised.raised.ensures ∙ ap (raised 1) after-inside.inside.ensures)
-    (side_left _ after-node-at.Node-at.ensures start.pre.1.1 refl after_minus.minus.ensures after-entry.entry.ensures.0
-    after-minus2.minus2.ensures [] after-keep.keep.ensures start.pre.1.0)))
+    (λ c κs. let after-keep = c in let after-raised = after-keep in
+    let after-inside = after-raised in let after-minus2 = after-inside in let after-entry = after-minus2 in
+    let after_minus = after-entry in let after-node-at = after_minus in
+    let start = after-node-at in
+    both (let falls = start.requires.0 in let left = left_at after-raised.raised-up.ensures in let left2 = left_at after-inside.inside.ensures in
+    let some = some_left start.requires.1.0 in let small = start.requires.1.0.small in let inner = after-node-at.node_at-n.ensures.inner in
+    let minus_is = after_minus.minus-inner.ensures in let minus2-is = after-minus2.minus-start.ensures in
+    omega arith) (suffixes-ready-at (after-raised.raised-up.ensures ∙ ap (raised 1) after-inside.inside.ensures)
+    (side_left _ after-node-at.node_at-n.ensures start.requires.1.1 refl after_minus.minus-inner.ensures after-entry.entry.ensures.0
+    after-minus2.minus-start.ensures [] after-keep.keep-a.ensures start.requires.1.0)))
     -- add-keep
-    (λ c. let start = c.before.before.before.before.before.before.before.before.before.before.before.before.before.before.before.before.before.before.before.before.before.before.before.before.before in omega (arith, start.pre.1.0.height))
+    (λ c. let start = c in omega (arith, start.requires.1.0.height))
     -- keep-requires-2
-    (λ c κs. let start = c.before.before.before.before.before.before.before.before.before.before.before.before.before.before.before.before.before.before.before.before.before.before.before.before.before in omega (arith, start.pre.1.0.height))
+    (λ c κs. let start = c in omega (arith, start.requires.1.0.height))
     -- raised-requires-2
-    (λ c κs. let after-raised = c.before.before.before.before.before.before.before.before.before.before.before.before.before.before.before.before.before.before.before in let after-inside = after-raised.before in
-    let start = after-inside.before.before.before.before.before.before.before.before.before.before in
-    let height = start.pre.1.0.height in let same-height = ap (λ (x : Here). x.height) after-raised.raised.ensures in
+    (λ c κs. let after-raised = c in let after-inside = after-raised in
+    let start = after-inside in
+    let height = start.requires.1.0.height in let same-height = ap (λ (x : Here). x.height) after-raised.raised-up.ensures in
     let same-height2 = ap (λ (x : Here). x.height) after-inside.inside.ensures in omega arith)
     -- expr-requires
-    (λ c κs. let after-keep2 = c.before.before.before.before.before in
-    let after-applied = after-keep2.before.before.before.before.before.before.before in
-    let after-keep = after-applied.before.before.before.before.before.before in let after-raised = after-keep.before.before in
-    let after-inside = after-raised.before in let after-minus2 = after-inside.before in let after-entry = after-minus2.before in
-    let after_minus = after-entry.before.before in let after-node-at = after_minus.before in
-    let start = after-node-at.before.before.before.before.before in
-    both (let falls = start.pre.0 in let left = left_at c.raised2.ensures in let left2 = left_at after-raised.raised.ensures in
-    let left3 = left_at after-inside.inside.ensures in let some = some_left start.pre.1.0 in
-    omega arith) (ready_at (c.raised2.ensures ∙ ap (raised 1) (after-raised.raised.ensures ∙ ap (raised 1) after-inside.inside.ensures))
-    (side_right _ after-node-at.Node-at.ensures start.pre.1.1 refl after_minus.minus.ensures after-entry.entry.ensures.0
-    after-minus2.minus2.ensures _ after-keep.keep.ensures
-    (suffixes-gave-at (after-raised.raised.ensures ∙ ap (raised 1) after-inside.inside.ensures) after-applied.applied.ensures)
-    after-keep2.keep2.ensures start.pre.1.0)))
+    (λ c κs. let after-keep2 = c in
+    let after-applied = after-keep2 in
+    let after-keep = after-applied in let after-raised = after-keep in
+    let after-inside = after-raised in let after-minus2 = after-inside in let after-entry = after-minus2 in
+    let after_minus = after-entry in let after-node-at = after_minus in
+    let start = after-node-at in
+    both (let falls = start.requires.0 in let left = left_at c.raised.ensures in let left2 = left_at after-raised.raised-up.ensures in
+    let left3 = left_at after-inside.inside.ensures in let some = some_left start.requires.1.0 in
+    omega arith) (ready_at (c.raised.ensures ∙ ap (raised 1) (after-raised.raised-up.ensures ∙ ap (raised 1) after-inside.inside.ensures))
+    (side_right _ after-node-at.node_at-n.ensures start.requires.1.1 refl after_minus.minus-inner.ensures after-entry.entry.ensures.0
+    after-minus2.minus-start.ensures _ after-keep.keep-a.ensures
+    (suffixes-gave-at (after-raised.raised-up.ensures ∙ ap (raised 1) after-inside.inside.ensures) after-applied.applied-b.ensures)
+    after-keep2.keep-c.ensures start.requires.1.0)))
     -- store-indexed-requires
-    (λ c κs. let start = c.before.before.before.before.before.before.before.before.before.before.before.before.before.before.before.before.before.before.before.before.before.before.before.before.before.before.before.before.before.before.before.before.before.before.before.before.before in omega (arith, start.pre.1.0.height))
+    (λ c κs. let start = c in omega (arith, start.requires.1.0.height))
     -- same-length
-    (λ c. c.before.before.before.before.before.before.before.before.expr.kept.1.0
-    ∙ c.before.before.before.before.before.before.before.before.before.before.before.before.before.before.before.before.before.before.before.before.before.applied.kept.1.0)
+    (λ c. c.expr-d.kept.1.0
+    ∙ c.applied-b.kept.1.0)
     -- same-length-2
-    (λ c. let after-expr = c.before.before.before.before.before.before.before.before in
-    let after-keep2 = after-expr.before.before.before.before.before.before in
-    let after-applied = after-keep2.before.before.before.before.before.before.before in
-    let after-keep = after-applied.before.before.before.before.before.before in
-    c.before.before.store-indexed.kept.0 ∙ after-expr.expr.kept.1.1.1.0 ∙ after-keep2.keep2.kept.0
-    ∙ after-applied.applied.kept.1.1.1.1.0 ∙ after-keep.keep.kept.0)
+    (λ c. let after-expr = c in
+    let after-keep2 = after-expr in
+    let after-applied = after-keep2 in
+    let after-keep = after-applied in
+    c.store_indexed.kept.0 ∙ after-expr.expr-d.kept.1.1.1.0 ∙ after-keep2.keep-c.kept.0
+    ∙ after-applied.applied-b.kept.1.1.1.1.0 ∙ after-keep.keep-a.kept.0)
     -- returns
-    (λ c. let after-expr = c.before.before.before.before.before.before.before.before in let after-raised2 = after-expr.before in
-    let after-keep2 = after-raised2.before.before.before.before.before in
-    let after-applied = after-keep2.before.before.before.before.before.before.before in
-    let after-keep = after-applied.before.before.before.before.before.before in let after-raised = after-keep.before.before in
-    let after-inside = after-raised.before in let after-minus2 = after-inside.before in let after-entry = after-minus2.before in
-    let after_minus = after-entry.before.before in let after-node-at = after_minus.before in
-    let start = after-node-at.before.before.before.before.before in
-    side-index-gave _ after-node-at.Node-at.ensures start.pre.1.1 refl after_minus.minus.ensures after-entry.entry.ensures.0
-    after-minus2.minus2.ensures _ after-keep.keep.ensures
-    (suffixes-gave-at (after-raised.raised.ensures ∙ ap (raised 1) after-inside.inside.ensures) after-applied.applied.ensures)
-    after-keep2.keep2.ensures (gave_at _ (after-raised2.raised2.ensures
-    ∙ ap (raised 1) (after-raised.raised.ensures ∙ ap (raised 1) after-inside.inside.ensures)) after-expr.expr.ensures)
-    c.before.before.store-indexed.ensures)
+    (λ c. let after-expr = c in let after-raised2 = after-expr in
+    let after-keep2 = after-raised2 in
+    let after-applied = after-keep2 in
+    let after-keep = after-applied in let after-raised = after-keep in
+    let after-inside = after-raised in let after-minus2 = after-inside in let after-entry = after-minus2 in
+    let after_minus = after-entry in let after-node-at = after_minus in
+    let start = after-node-at in
+    side-index-gave _ after-node-at.node_at-n.ensures start.requires.1.1 refl after_minus.minus-inner.ensures after-entry.entry.ensures.0
+    after-minus2.minus-start.ensures _ after-keep.keep-a.ensures
+    (suffixes-gave-at (after-raised.raised-up.ensures ∙ ap (raised 1) after-inside.inside.ensures) after-applied.applied-b.ensures)
+    after-keep2.keep-c.ensures (gave_at _ (after-raised2.raised.ensures
+    ∙ ap (raised 1) (after-raised.raised-up.ensures ∙ ap (raised 1) after-inside.inside.ensures)) after-expr.expr-d.ensures)
+    c.store_indexed.ensures)
 
 abbrev assign-cs : ℕ → cycle.Lts-assign.Claims
 assign-cs t =
     four (proofs.scope.entry.Reads.Asked, proofs.scope.entry.Reads.Learnt) (calls expr t) (steps.node_at.Reads.Asked, steps.node_at.Reads.Learnt)
     (calls side t)
 
-abbrev assign-Inv-loop : cycle.Lts-assign.InvT-loop
+abbrev assign-Inv-loop : cycle.Lts-assign.invariant-loop-at
 assign-Inv-loop source s₀ left right end text₀ here l₀ at₀ r₀ s text l at r =
     (length s ≡ length s₀) × (length text ≡ length text₀) × ((y : ReadyAssign s₀ left right end here r₀) → AssignPart source text₀ y s text l at r)
 
-abbrev assign-μ-loop : cycle.Lts-assign.MeasureT-loop
+abbrev assign-μ-loop : cycle.Lts-assign.decreases-loop-at
 assign-μ-loop source s₀ left right end text₀ here l₀ at₀ r₀ s text l at r = end - at
 
 -- the left sides stand below the right ones
@@ -251,28 +251,28 @@ pub assign-ok : {M : Type 1} (t : ℕ) → cycle.Lts-assign.Closed (assign-cs t)
 assign-ok t = cycle.Lts-assign.spec (assign-cs t) (at assign t) (rank assign).post assign-Inv-loop assign-μ-loop (λ c. search (needs, assign-begin))
     (λ c. omega arith) (λ c κs. omega arith) (λ c. omega (arith, c.entry.ensures.1))
     -- expr-requires
-    (λ c κs. let after-loop-test = c.before.before.before.before in let after-loop = after-loop-test.before in
-    let start = after-loop.before.before.before.before in
-    both (omega arith) (assign-right _ _ after-loop-test.loop-test.taken c.before.before.entry.ensures.0 refl start.pre.1
-    (after-loop.loop.inv.2 start.pre.1)))
+    (λ c κs. let after-loop-test = c in let after-loop = after-loop-test in
+    let start = after-loop in
+    both (omega arith) (assign-right _ _ after-loop-test.loop-at-test.true c.entry.ensures.0 refl start.requires.1
+    (after-loop.loop-at.invariant.2 start.requires.1)))
     (λ c κs. omega arith)
     -- side-requires
-    (λ c κs. let after-expr = c.before.before.before.before.before.before.before.before in
-    let after-entry = after-expr.before.before.before in let after-loop-test = after-entry.before.before in
-    let after-loop = after-loop-test.before in let start = after-loop.before.before.before.before in
-    both (omega (arith, start.pre.0)) (both
-    (assign-left _ _ after-loop-test.loop-test.taken after-entry.entry.ensures.0 refl after-expr.expr.ensures start.pre.1
-    (after-loop.loop.inv.2 start.pre.1)) c.before.before.Node-at.ensures.place_fits))
+    (λ c κs. let after-expr = c in
+    let after-entry = after-expr in let after-loop-test = after-entry in
+    let after-loop = after-loop-test in let start = after-loop in
+    both (omega (arith, start.requires.0)) (both
+    (assign-left _ _ after-loop-test.loop-at-test.true after-entry.entry.ensures.0 refl after-expr.expr-a.ensures start.requires.1
+    (after-loop.loop-at.invariant.2 start.requires.1)) c.node_at-n.ensures.place_fits))
     (λ c. omega (arith, assign-low t (search))) (λ c κs. omega arith) (λ c. omega (arith, assign-low t (search)))
     -- loop-less
-    (λ c. let after-loop-test = c.before.before.before.before.before.before.before.before.before.before.before.before.before.before.before.before.before.before.before.before in omega (arith, after-loop-test.loop-test.taken))
+    (λ c. let after-loop-test = c in omega (arith, after-loop-test.loop-at-test.true))
     -- loop-again
-    (λ c. let after-side = c.before.before.before.before.before.before in let after-node-at = after-side.before.before.before in
-    let after-expr = after-node-at.before.before.before.before.before.before in let after-entry = after-expr.before.before.before in
-    let after-loop-test = after-entry.before.before in let after-loop = after-loop-test.before in (
+    (λ c. let after-side = c in let after-node-at = after-side in
+    let after-expr = after-node-at in let after-entry = after-expr in
+    let after-loop-test = after-entry in let after-loop = after-loop-test in (
       omega arith,
       omega arith,
-      λ y. assign-next _ _ after-loop-test.loop-test.taken after-entry.entry.ensures.0 refl after-expr.expr.ensures _
-          after-node-at.Node-at.ensures after-side.side.ensures c.entry2.ensures.0 refl y (after-loop.loop.inv.2 y),
+      λ y. assign-next _ _ after-loop-test.loop-at-test.true after-entry.entry.ensures.0 refl after-expr.expr-a.ensures _
+          after-node-at.node_at-n.ensures after-side.side-r.ensures c.entry-in-loop-at.ensures.0 refl y (after-loop.loop-at.invariant.2 y),
     ))
-    (λ c. omega arith) (λ c. omega arith) (λ c. assign_end _ _ c.loop-test.left c.before.loop.inv.2)
+    (λ c. omega arith) (λ c. omega arith) (λ c. assign_end _ _ c.loop-at-test.false c.loop-at.invariant.2)
