@@ -22,5 +22,5 @@ walked_spec =
     let s = o in let f = s in
     translates f.requires f.function_count-functions.ensures s.string_count-names.ensures o.opening-at.ensures
     p.program-e.ensures o.no_starts-table.ensures b.behind-last.ensures c.entry.ensures.0
-    (b.behind-last.auto.1.1.1.1.0 ∙ (p.program-e.auto.1.1.1.1.1.1.1.0 ∙ o.opening-at.auto.0)) c.decide.ensures
-    (b.behind-last.auto.1.0 ∙ p.program-e.auto.1.0) a.clear_from.ensures))
+    (b.behind-last.auto.text ∙ (p.program-e.auto.text ∙ o.opening-at.auto.text)) c.decide.ensures
+    (b.behind-last.auto.s ∙ p.program-e.auto.s) a.clear_from.ensures))

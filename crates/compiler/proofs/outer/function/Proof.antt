@@ -21,10 +21,10 @@ function_spec = tie.close (tie.spec (search needs) (search needs) (search needs)
     (λ c. let after-body = c in
     let after-declare = after-body in
     let after_push = after-declare in
-    after-body.body-d.auto.1.0 ∙ after-declare.declare-b.auto.1.0 ∙ after_push.push.auto.0)
+    after-body.body-d.auto.s ∙ after-declare.declare-b.auto.s ∙ after_push.push.auto.s)
     -- same-length-2
-    (λ c. c.put.auto.0 ∙ c.body-d.auto.1.1.1.0
-    ∙ c.mark-a.auto.0)
+    (λ c. c.put.auto.text ∙ c.body-d.auto.text
+    ∙ c.mark-a.auto.text)
     -- returns
     (λ c. let after-body = c in
     let after-reached = after-body in let after-declare = after-reached in

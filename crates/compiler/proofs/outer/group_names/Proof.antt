@@ -12,7 +12,7 @@ decreases-loop source s₀ table₀ from end top before at₀ k₀ now-top₀ r�
 
 -- what a function's name needs
 fit : (c : tie.In-loop-at invariant-loop decreases-loop) → let start = c in let l = c.loop-at in
-    Fits start.args.source.now start.args.st start.requires l.s l.table l.at l.k l.now-top
+    Fits start.args.source.now start.args.st start.requires l.s l.table l.at l.k l.now_top
 fit c = let start = c in
     names-fit start.args.source.now start.args.st c.loop-at-test.true start.requires (c.loop-at.invariant.2 start.requires)
 

@@ -29,7 +29,7 @@ items_spec = tie.close (tie.spec invariant-loop decreases-loop (λ c. (refl, λ 
     (search needs)
     -- push-name-requires
     (λ c κs. let after-item-constant = c in
-    let after-loop-test = after-item-constant in let w = fit after-loop-test in
+    let after-loop-test = after-item-constant in let w = fit (search) in
     let v = code-small after-loop-test.args.global after-item-constant.item_constant-c.result.word
     after-item-constant.item_constant-c.ensures.low in (omega arith, omega arith, omega arith, w.name))
     (λ c. omega (arith, fit (search))) (λ c. omega arith)

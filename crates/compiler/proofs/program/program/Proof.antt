@@ -25,7 +25,7 @@ program_spec = tie.close (tie.spec invariant-loop (λ source s₀ table₀ base 
     let after-entry2 = after-declaration in let after-entry = after-entry2 in
     let after-loop-test = after-entry in let after-loop = after-loop-test in (
       omega arith,
-      after-declaration.declaration-l.auto.1.1.0 ∙ after-loop.loop-at.invariant.1,
+      after-declaration.declaration-l.auto.table ∙ after-loop.loop-at.invariant.1,
       omega arith,
       λ y. program-next _ _ _
           after-loop-test.loop-at-test.true after-entry.entry.ensures.0 refl after-entry2.entry-tag.ensures.0 y (after-loop.loop-at.invariant.3 y)

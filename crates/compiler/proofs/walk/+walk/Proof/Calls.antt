@@ -16,21 +16,21 @@ applied-cs t =
     (calls applied t) (calls indexed t) (steps.count.Reads.Asked, steps.count.Reads.Learnt) (calls passed t)
     (steps.raised.Reads.Asked, steps.raised.Reads.Learnt) (steps.put.Reads.Asked, steps.put.Reads.Learnt)
 
-abbrev applied-start : (t : ℕ) → cycle.Lts-applied.After-entry2 (applied-cs t) (at applied t) (rank applied).post
+abbrev applied-start : (t : ℕ) → cycle.Lts-applied.After-entry-2 (applied-cs t) (at applied t) (rank applied).post
     → cycle.Lts-applied.Start (applied-cs t) (at applied t) (rank applied).post
-applied-start t c = c.before.before.before.before.before.before.before.before.before.before.before
+applied-start t c = c
 
-applied-read : (t : ℕ) (c : cycle.Lts-applied.After-entry2 (applied-cs t) (at applied t) (rank applied).post)
-    → let args = (applied-start t c).args in LastRead args.s.now args.middle args.end c.entry2.result
-    c.before.before.before.before.before.before.minus.result c.before.before.before.minus2.result
-applied-read t c = let after-minus2 = c.before.before.before in let after_minus = after-minus2.before.before.before in
-    last-read after_minus.before.if1.left c.before.minus3.ensures c.entry2.ensures.0 after_minus.minus.ensures
-    after-minus2.before.entry.ensures.0 after-minus2.minus2.ensures
+applied-read : (t : ℕ) (c : cycle.Lts-applied.After-entry-2 (applied-cs t) (at applied t) (rank applied).post)
+    → let args = (applied-start t c).args in LastRead args.s-1.now args.middle args.end c.entry-2.result
+    c.minus-inner.result c.minus-start.result
+applied-read t c = let after-minus2 = c in let after_minus = after-minus2 in
+    last-read after_minus.if-end-middle.false c.minus.ensures c.entry-2.ensures.0 after_minus.minus-inner.ensures
+    after-minus2.entry.ensures.0 after-minus2.minus-start.ensures
 
-applied-few : (t : ℕ) (c : cycle.Lts-applied.After-count (applied-cs t) (at applied t) (rank applied).post)
-    → c.count.result < (applied-start t c.before.before.before).args.end
-applied-few t c = let r = c.before.before.before in
-    call-few (applied-read t r) c.before.before.if2.left c.count.ensures (applied-start t r).pre.1
+applied-few : (t : ℕ) (c : cycle.Lts-applied.After-count-n (applied-cs t) (at applied t) (rank applied).post)
+    → c.count-n.result < (applied-start t c).args.end
+applied-few t c = let r = c in
+    call-few (applied-read t r) c.if-entry-eq-PLING.false c.count-n.ensures r.requires.1
 
 pub applied-ok : {M : Type 1} (t : ℕ) → cycle.Lts-applied.Closed (applied-cs t) (at applied t) (rank applied).post M
 applied-ok t = cycle.Lts-applied.spec (applied-cs t) (at applied t) (rank applied).post (λ c κs. search (needs, primary-part)) (λ c. omega arith)
@@ -48,8 +48,8 @@ applied-ok t = cycle.Lts-applied.spec (applied-cs t) (at applied t) (rank applie
     after-indexed.indexed.ensures)
     (λ c κs. omega arith)
     (λ c κs. let start = applied-start t (search) in both (omega (arith, start.requires.0)) (search (call-args (applied-read t (search)))))
-    (λ c. let y = (applied-start t (search)).pre.1.ready in omega (arith, applied-few t (search)))
-    (λ c κs. let y = (applied-start t (search)).pre.1.ready in omega (arith, applied-few t (search)))
+    (λ c. let y = c.requires.1.ready in omega (arith, applied-few t (search)))
+    (λ c κs. let y = c.requires.1.ready in omega (arith, applied-few t (search)))
     -- applied-requires-2
     (λ c κs. let start = applied-start t (search) in let r = applied-read t (search) in
     let after-passed = c in
@@ -99,8 +99,8 @@ args_ok t =
     (λ c. let after-expr = c in
     let after-raised = after-expr in let after-entry = after-raised in
     let after-loop-test = after-entry in let after-loop = after-loop-test in (
-      after-expr.expr-a.kept.1.0 ∙ after-loop.loop-at.invariant.0,
-      c.keep-r.kept.0 ∙ after-expr.expr-a.kept.1.1.1.0 ∙ after-loop.loop-at.invariant.1,
+      after-expr.expr-a.auto.s ∙ after-loop.loop-at.invariant.0,
+      c.keep-r.auto.text ∙ after-expr.expr-a.auto.text ∙ after-loop.loop-at.invariant.1,
       λ y. args-next _ _ _ after-loop-test.loop-at-test.true after-entry.entry.ensures.0 refl
           (gave_at _ after-raised.raised.ensures after-expr.expr-a.ensures) c.keep-r.ensures y (after-loop.loop-at.invariant.2 y),
     ))

@@ -78,15 +78,15 @@ test-ok t = cycle.Lts-test.spec (test-cs t) (at test t) (rank test).post (λ c �
     -- same-length
     (λ c. let after-command2 = c in
     let after-command = after-command2 in let after-expr = after-command in
-    after-command2.command-g.kept.1.0 ∙ after-command.command-d.kept.1.0 ∙ after-expr.expr-b.kept.1.0)
+    after-command2.command-g.auto.s ∙ after-command.command-d.auto.s ∙ after-expr.expr-b.auto.s)
     -- same-length-2
     (λ c. let after-command2 = c in
     let after-mark = after-command2 in let after-put-to2 = after-mark in
     let after-command = after-put-to2 in
     let after-put-to = after-command in
     let after-expr = after-put-to in
-    c.mark.kept.0 ∙ after-command2.command-g.kept.1.1.1.0 ∙ after-mark.mark-f.kept.0 ∙ after-put-to2.put_to-e.kept.0
-    ∙ after-command.command-d.kept.1.1.1.0 ∙ after-put-to.put_to-c.kept.0 ∙ after-expr.expr-b.kept.1.1.1.0)
+    c.mark.auto.text ∙ after-command2.command-g.auto.text ∙ after-mark.mark-f.auto.text ∙ after-put-to2.put_to-e.auto.text
+    ∙ after-command.command-d.auto.text ∙ after-put-to.put_to-c.auto.text ∙ after-expr.expr-b.auto.text)
     -- returns
     (λ c. let after-command2 = c in
     let after-mark = after-command2 in let after-put-to2 = after-mark in
@@ -105,14 +105,14 @@ switch-cs t = nine (steps.node_at.Reads.Asked, steps.node_at.Reads.Learnt) (call
     (proofs.labels.table.Reads.Asked, proofs.labels.table.Reads.Learnt) (steps.in_switch.Reads.Asked, steps.in_switch.Reads.Learnt) (calls cases t)
     (steps.mark.Reads.Asked, steps.mark.Reads.Learnt)
 
-switch-fit : (t : ℕ) (c : cycle.Lts-switch.After-count (switch-cs t) (at switch t) (rank switch).post)
-    → let after-expr = c.before.before.before.before.before.before in (after-expr.expr.result.label + c.count.result + 1 ≤ 2 ^ 29) ×
-    (after-expr.before.before.before.before.before.before.before.before.before.args.st.label ≤ after-expr.expr.result.label)
+switch-fit : (t : ℕ) (c : cycle.Lts-switch.After-count-k (switch-cs t) (at switch t) (rank switch).post)
+    → let after-expr = c in (after-expr.expr-a.result.label + c.count-k.result + 1 ≤ 2 ^ 29) ×
+    (after-expr.args.st.label ≤ after-expr.expr-a.result.label)
 switch-fit t c =
-    let after-expr = c.before.before.before.before.before.before in let after-node-at = after-expr.before.before.before.before in
-    let start = after-node-at.before.before.before.before.before in
-    switch-few _ after-node-at.Node-at.ensures start.pre.1.1.is refl start.args.source.now after-expr.expr.ensures
-    c.count.ensures start.pre.1.0
+    let after-expr = c in let after-node-at = after-expr in
+    let start = after-node-at in
+    switch-few _ after-node-at.node_at-n.ensures start.requires.1.1.is refl start.args.source.now after-expr.expr-a.ensures
+    c.count-k.ensures start.requires.1.0
 
 pub switch-ok : {M : Type 1} (t : ℕ) → cycle.Lts-switch.Closed (switch-cs t) (at switch t) (rank switch).post M
 switch-ok t = cycle.Lts-switch.spec (switch-cs t) (at switch t) (rank switch).post (λ c κs. omega arith) (λ c. omega arith)
@@ -139,14 +139,14 @@ switch-ok t = cycle.Lts-switch.spec (switch-cs t) (at switch t) (rank switch).po
     (omega (arith, switch-fit t after-count))))
     (λ c κs. omega arith)
     -- same-length
-    (λ c. c.cases-e.kept.1.0
-    ∙ c.expr-a.kept.1.0)
+    (λ c. c.cases-e.auto.s
+    ∙ c.expr-a.auto.s)
     -- same-length-2
     (λ c. let after-cases = c in
     let after_table = after-cases in
     let after-expr = after_table in
-    c.mark.kept.0 ∙ after-cases.cases-e.kept.1.1.1.1.0 ∙ after_table.table-d.kept.1.1.1.1.1.0
-    ∙ after-expr.expr-a.kept.1.1.1.0)
+    c.mark.auto.text ∙ after-cases.cases-e.auto.text ∙ after_table.table-d.auto.text
+    ∙ after-expr.expr-a.auto.text)
     -- returns
     (λ c. let after-cases = c in let after-in-switch = after-cases in
     let after_table = after-in-switch in let after-doubled = after_table in

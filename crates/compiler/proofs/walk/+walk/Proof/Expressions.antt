@@ -93,8 +93,8 @@ chain-ok t =
     let after-raised = after-expr in let after-keep = after-raised in
     let after-entry2 = after-keep in let after-entry = after-entry2 in
     let after-loop-test = after-entry in let after-loop = after-loop-test in (
-      after-expr.expr-b.kept.1.0 ∙ after-loop.loop-at.invariant.0,
-      c.operate-r.kept.0 ∙ after-expr.expr-b.kept.1.1.1.0 ∙ after-keep.keep-a.kept.0 ∙ after-loop.loop-at.invariant.1,
+      after-expr.expr-b.auto.s ∙ after-loop.loop-at.invariant.0,
+      c.operate-r.auto.text ∙ after-expr.expr-b.auto.text ∙ after-keep.keep-a.auto.text ∙ after-loop.loop-at.invariant.1,
       λ y. chain_next _ _ after-loop-test.loop-at-test.true
           after-entry.entry-size.ensures.0 after-entry2.entry-operator.ensures.0 refl after-act-of.act_of.ensures after-keep.keep-a.ensures
           (gave_at _ after-raised.raised.ensures after-expr.expr-b.ensures) c.operate-r.ensures y

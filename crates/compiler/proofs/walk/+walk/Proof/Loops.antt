@@ -45,15 +45,15 @@ while-do-ok t =
     (λ c κs. omega arith)
     -- same-length
     (λ c. let after-command = c in
-    let after-expr = after-command in after-command.command-e.kept.1.0 ∙ after-expr.expr-c.kept.1.0)
+    let after-expr = after-command in after-command.command-e.auto.s ∙ after-expr.expr-c.auto.s)
     -- same-length-2
     (λ c. let after-put-to2 = c in
     let after-command = after-put-to2 in
     let after-put-to = after-command in
     let after-expr = after-put-to in
     let after-mark = after-expr in
-    c.mark.kept.0 ∙ after-put-to2.put_to-f.kept.0 ∙ after-command.command-e.kept.1.1.1.0 ∙ after-put-to.put_to-d.kept.0
-    ∙ after-expr.expr-c.kept.1.1.1.0 ∙ after-mark.mark-b.kept.0)
+    c.mark.auto.text ∙ after-put-to2.put_to-f.auto.text ∙ after-command.command-e.auto.text ∙ after-put-to.put_to-d.auto.text
+    ∙ after-expr.expr-c.auto.text ∙ after-mark.mark-b.auto.text)
     -- returns
     (λ c. let after-put-to2 = c in
     let after-command = after-put-to2 in let after-in-loop = after-command in
@@ -77,18 +77,15 @@ for-to-cs t = fifteen (steps.node_at.Reads.Asked, steps.node_at.Reads.Learnt) (s
     (steps.for_step.Reads.Asked, steps.for_step.Reads.Learnt)
 
 abbrev ForToTested : ℕ → Type 0
-ForToTested t = cycle.Lts-for_to.After-for-test (for-to-cs t) (at for-to t) (rank for-to).post
+ForToTested t = cycle.Lts-for_to.After-for_test-g (for-to-cs t) (at for-to t) (rank for-to).post
 
-abbrev for-to-start : (t : ℕ) → ForToTested t → cycle.Lts-for_to.Start (for-to-cs t) (at for-to t) (rank for-to).post
-for-to-start t c = c.before.before.before.before.before.before.before.before.before.before.before.before.before.before.before.before.before.before.before.before.before.before.before.before.before.before.before.before.before.before.before.before.before.before.before.before.before.before.before.before
-
-for-to-room : (t : ℕ) (c : ForToTested t) → (for-to-start t c).args.here.top + 4 ≤ (for-to-start t c).pre.1.0.base
+for-to-room : (t : ℕ) (c : ForToTested t) → c.args.here.top + 4 ≤ c.requires.1.0.base
 for-to-room t c =
-    let after-node-at3 = c.before.before.before.before.before.before.before.before.before.before.before.before.before.before.before.before.before.before.before.before.before.before.before.before.before.before.before.before.before.before in
-    let after_minus = after-node-at3.before.before in let after-node-at2 = after_minus.before in
-    let after-node-at = after-node-at2.before.before in let start = for-to-start t c in
-    for-room _ _ _ after-node-at.Node-at.ensures after-node-at2.node-at2.ensures after_minus.minus.ensures
-    after-node-at3.node-at3.ensures start.pre.1.1.is start.pre.1.0
+    let after-node-at3 = c in
+    let after_minus = after-node-at3 in let after-node-at2 = after_minus in
+    let after-node-at = after-node-at2 in let start = c in
+    for-room _ _ _ after-node-at.node_at-n.ensures after-node-at2.node_at-body.ensures after_minus.minus-limit_end.ensures
+    after-node-at3.node_at-limit.ensures start.requires.1.1.is start.requires.1.0
 
 pub for-to-ok : {M : Type 1} (t : ℕ) → cycle.Lts-for_to.Closed (for-to-cs t) (at for-to t) (rank for-to).post M
 for-to-ok t = cycle.Lts-for_to.spec (for-to-cs t) (at for-to t) (rank for-to).post (λ c κs. omega arith) (λ c κs. omega arith) (λ c κs. omega arith)
@@ -126,15 +123,15 @@ for-to-ok t = cycle.Lts-for_to.spec (for-to-cs t) (at for-to t) (rank for-to).po
     -- for-test-requires
     (λ c κs. let start = c in (omega (arith, start.requires.1.0.height), omega (arith, start.requires.1.0.label)))
     -- push-requires
-    (λ c κs. let h : ForToTested t = search in let y = (for-to-start t h).pre.1.0 in
-    let k = h.expr-d.kept in
-    let l = h.expr-b.kept in (omega (arith, for-to-room t h), omega arith, omega arith))
-    (λ c. let h : ForToTested t = search in let y = (for-to-start t h).pre.1.0 in omega (arith, for-to-room t h))
-    (λ c. let y = (for-to-start t (search)).pre.1.0 in omega arith) (λ c. let y = (for-to-start t (search)).pre.1.0 in omega arith)
+    (λ c κs. let h : ForToTested t = search in let y = h.requires.1.0 in
+    let k = h.expr-d.auto in
+    let l = h.expr-b.auto in (omega (arith, for-to-room t h), omega arith, omega arith))
+    (λ c. let h : ForToTested t = search in let y = h.requires.1.0 in omega (arith, for-to-room t h))
+    (λ c. let y = c.requires.1.0 in omega arith) (λ c. let y = c.requires.1.0 in omega arith)
     -- push-name-requires
-    (λ c κs. let h : ForToTested t = search in let y = (for-to-start t h).pre.1.0 in
-    let k = h.expr-d.kept in
-    let l = h.expr-b.kept in
+    (λ c κs. let h : ForToTested t = search in let y = h.requires.1.0 in
+    let k = h.expr-d.auto in
+    let l = h.expr-b.auto in
     let n = h.node_at-n.ensures in let f = let after_push = c in
     let after-for-test = after_push in let after-blame = after-for-test in
     let after-by-constant = after-blame in let after-keep2 = after-by-constant in
@@ -148,9 +145,9 @@ for-to-ok t = cycle.Lts-for_to.spec (for-to-cs t) (at for-to t) (rank for-to).po
     (gave_at _ after-raised.raised.ensures after-expr2.expr-d.ensures) after-keep2.keep-e.ensures after-by-constant.by_constant-by.ensures
     after-blame.blame-f.ensures after-for-test.for_test-g.ensures after_push.push.ensures start.requires.1.0 in
     (omega (arith, for-to-room t h), omega arith, omega arith, f))
-    (λ c. let h : ForToTested t = search in let y = (for-to-start t h).pre.1.0 in omega (arith, for-to-room t h))
-    (λ c. let y = (for-to-start t (search)).pre.1.0 in omega arith) (λ c κs. omega arith)
-    (λ c. let y = (for-to-start t (search)).pre.1.0 in omega arith) (λ c. let y = (for-to-start t (search)).pre.1.0 in omega arith)
+    (λ c. let h : ForToTested t = search in let y = h.requires.1.0 in omega (arith, for-to-room t h))
+    (λ c. let y = c.requires.1.0 in omega arith) (λ c κs. omega arith)
+    (λ c. let y = c.requires.1.0 in omega arith) (λ c. let y = c.requires.1.0 in omega arith)
     (λ c κs. omega arith)
     -- command-requires
     (λ c κs. let after-set-at = c in
@@ -169,15 +166,15 @@ for-to-ok t = cycle.Lts-for_to.spec (for-to-cs t) (at for-to t) (rank for-to).po
     (gave_at _ after-raised.raised.ensures after-expr2.expr-d.ensures) after-keep2.keep-e.ensures after-by-constant.by_constant-by.ensures
     after-blame.blame-f.ensures after-for-test.for_test-g.ensures after_push.push.ensures after-push-name.push_name.ensures refl
     start.requires.1.0)))
-    (λ c κs. let y = (for-to-start t c).pre.1.0 in (omega arith, omega arith))
+    (λ c κs. let y = c.requires.1.0 in (omega arith, omega arith))
     -- same-length
     (λ c. let after-command = c in
     let after-push-name = after-command in
     let after_push = after-push-name in
     let after-expr2 = after_push in let after-expr
     = after-expr2 in
-    after-command.command-h.kept.1.0 ∙ after-push-name.push_name.kept.0 ∙ after_push.push.kept.0 ∙ after-expr2.expr-d.kept.1.0
-    ∙ after-expr.expr-b.kept.1.0)
+    after-command.command-h.auto.s ∙ after-push-name.push_name.auto.s ∙ after_push.push.auto.s ∙ after-expr2.expr-d.auto.s
+    ∙ after-expr.expr-b.auto.s)
     -- same-length-2
     (λ c. let after-command = c in
     let after-for-test = after-command in
@@ -185,8 +182,8 @@ for-to-ok t = cycle.Lts-for_to.spec (for-to-cs t) (at for-to t) (rank for-to).po
     let after-expr2 = after-keep2 in
     let after-keep = after-expr2 in
     let after-expr = after-keep in
-    c.for_step.kept.0 ∙ after-command.command-h.kept.1.1.1.0 ∙ after-for-test.for_test-g.kept.0 ∙ after-keep2.keep-e.kept.0
-    ∙ after-expr2.expr-d.kept.1.1.1.0 ∙ after-keep.keep-c.kept.0 ∙ after-expr.expr-b.kept.1.1.1.0)
+    c.for_step.auto.text ∙ after-command.command-h.auto.text ∙ after-for-test.for_test-g.auto.text ∙ after-keep2.keep-e.auto.text
+    ∙ after-expr2.expr-d.auto.text ∙ after-keep.keep-c.auto.text ∙ after-expr.expr-b.auto.text)
     -- returns
     (λ c. let after-command = c in let after-in-loop = after-command in
     let after-set-at = after-in-loop in
@@ -243,8 +240,8 @@ forms-ok t = cycle.Lts-forms.spec (forms-cs t) (at forms t) (rank forms).post fo
     let after-mark = after-form in let after-entry2 = after-mark in
     let after-entry = after-entry2 in let after-loop-test = after-entry in
     let after-loop = after-loop-test in let start = after-loop in (
-      after-form.form-b.kept.1.0 ∙ after-loop.loop-at.invariant.0,
-      after-mark2.mark-r.kept.0 ∙ after-form.form-b.kept.1.1.1.0 ∙ after-mark.mark-a.kept.0 ∙ after-loop.loop-at.invariant.1,
+      after-form.form-b.auto.s ∙ after-loop.loop-at.invariant.0,
+      after-mark2.mark-r.auto.text ∙ after-form.form-b.auto.text ∙ after-mark.mark-a.auto.text ∙ after-loop.loop-at.invariant.1,
       omega (arith, after-loop.loop-at.invariant.2),
       λ y. forms-next _ _
           start.args.innermost after-loop-test.loop-at-test.true after-entry.entry-size.ensures.0 after-entry2.entry-word.ensures.0 refl
@@ -257,11 +254,11 @@ repeated-cs t = eight (steps.node_at.Reads.Asked, steps.node_at.Reads.Learnt) (s
     (steps.minus.Reads.Asked, steps.minus.Reads.Learnt) (steps.fresh.Reads.Asked, steps.fresh.Reads.Learnt)
     (steps.tops.Reads.Asked, steps.tops.Reads.Learnt) (steps.in_loop.Reads.Asked, steps.in_loop.Reads.Learnt) (calls plain t) (calls forms t)
 
-repeated-fit : (t : ℕ) (c : cycle.Lts-repeated.After-count (repeated-cs t) (at repeated t) (rank repeated).post) → (1 ≤ c.count.result) ×
-    (c.before.before.before.before.before.before.before.before.before.before.args.st.label + 3 * c.count.result + 3 ≤ 2 ^ 29)
+repeated-fit : (t : ℕ) (c : cycle.Lts-repeated.After-count-k (repeated-cs t) (at repeated t) (rank repeated).post) → (1 ≤ c.count-k.result) ×
+    (c.args.st.label + 3 * c.count-k.result + 3 ≤ 2 ^ 29)
 repeated-fit t c =
-    repeated-few _ c.before.before.before.before.before.Node-at.ensures c.before.before.before.if1.taken refl c.count.ensures
-    c.before.before.before.before.before.before.before.before.before.before.pre.1
+    repeated-few _ c.node_at-n.ensures c.if-n-eq-REPEATED.true refl c.count-k.ensures
+    c.requires.1
 
 pub repeated-ok : {M : Type 1} (t : ℕ) → cycle.Lts-repeated.Closed (repeated-cs t) (at repeated t) (rank repeated).post M
 repeated-ok t =

@@ -76,13 +76,13 @@ located-ok t =
     start.requires.1.0)))
     (λ c κs. omega arith)
     -- same-length
-    (λ c. c.expr-c.kept.1.0
-    ∙ c.applied-a.kept.1.0)
+    (λ c. c.expr-c.auto.s
+    ∙ c.applied-a.auto.s)
     -- same-length-2
     (λ c. let after-expr = c in
     let after-keep = after-expr in
     let after-applied = after-keep in
-    c.put.kept.0 ∙ after-expr.expr-c.kept.1.1.1.0 ∙ after-keep.keep-b.kept.0 ∙ after-applied.applied-a.kept.1.1.1.1.0)
+    c.put.auto.text ∙ after-expr.expr-c.auto.text ∙ after-keep.keep-b.auto.text ∙ after-applied.applied-a.auto.text)
     -- returns
     (λ c. let after-expr = c in let after-raised = after-expr in
     let after-keep = after-raised in
@@ -205,15 +205,15 @@ stored_ok t = cycle.Lts-stored.spec (stored-cs t) (at stored t) (rank stored).po
     -- store-indexed-requires
     (λ c κs. let start = c in omega (arith, start.requires.1.0.height))
     -- same-length
-    (λ c. c.expr-d.kept.1.0
-    ∙ c.applied-b.kept.1.0)
+    (λ c. c.expr-d.auto.s
+    ∙ c.applied-b.auto.s)
     -- same-length-2
     (λ c. let after-expr = c in
     let after-keep2 = after-expr in
     let after-applied = after-keep2 in
     let after-keep = after-applied in
-    c.store_indexed.kept.0 ∙ after-expr.expr-d.kept.1.1.1.0 ∙ after-keep2.keep-c.kept.0
-    ∙ after-applied.applied-b.kept.1.1.1.1.0 ∙ after-keep.keep-a.kept.0)
+    c.store_indexed.auto.text ∙ after-expr.expr-d.auto.text ∙ after-keep2.keep-c.auto.text
+    ∙ after-applied.applied-b.auto.text ∙ after-keep.keep-a.auto.text)
     -- returns
     (λ c. let after-expr = c in let after-raised2 = after-expr in
     let after-keep2 = after-raised2 in
@@ -242,10 +242,10 @@ abbrev assign-μ-loop : cycle.Lts-assign.decreases-loop-at
 assign-μ-loop source s₀ left right end text₀ here l₀ at₀ r₀ s text l at r = end - at
 
 -- the left sides stand below the right ones
-assign-low : (t : ℕ) (c : cycle.Lts-assign.In-loop (assign-cs t) (at assign t) (rank assign).post assign-Inv-loop assign-μ-loop)
-    → c.before.loop.l < 2 ^ 32
-assign-low t c = let y = c.before.before.before.before.before.pre.1 in let p = c.before.loop.inv.2 y in
-    omega (arith, (assign-is _ _ c.loop-test.taken refl refl y p).before, y.ready.small, p.starts, c.loop-test.taken)
+assign-low : (t : ℕ) (c : cycle.Lts-assign.In-loop-at (assign-cs t) (at assign t) (rank assign).post assign-Inv-loop assign-μ-loop)
+    → c.loop-at.l < 2 ^ 32
+assign-low t c = let y = c.requires.1 in let p = c.loop-at.invariant.2 y in
+    omega (arith, (assign-is _ _ c.loop-at-test.true refl refl y p), y.ready.small, p.starts, c.loop-at-test.true)
 
 pub assign-ok : {M : Type 1} (t : ℕ) → cycle.Lts-assign.Closed (assign-cs t) (at assign t) (rank assign).post M
 assign-ok t = cycle.Lts-assign.spec (assign-cs t) (at assign t) (rank assign).post assign-Inv-loop assign-μ-loop (λ c. search (needs, assign-begin))
