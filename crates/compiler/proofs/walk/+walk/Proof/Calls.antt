@@ -16,19 +16,15 @@ applied-cs t =
     (calls applied t) (calls indexed t) (steps.count.Reads.Asked, steps.count.Reads.Learnt) (calls passed t)
     (steps.raised.Reads.Asked, steps.raised.Reads.Learnt) (steps.put.Reads.Asked, steps.put.Reads.Learnt)
 
-abbrev applied-start : (t : ℕ) → cycle.Lts-applied.After-entry-2 (applied-cs t) (at applied t) (rank applied).post
-    → cycle.Lts-applied.Start (applied-cs t) (at applied t) (rank applied).post
-applied-start t c = c
-
 applied-read : (t : ℕ) (c : cycle.Lts-applied.After-entry-2 (applied-cs t) (at applied t) (rank applied).post)
-    → let args = (applied-start t c).args in LastRead args.s-1.now args.middle args.end c.entry-2.result
+    → let args = c.args in LastRead args.s.now args.middle args.end c.entry-2.result
     c.minus-inner.result c.minus-start.result
 applied-read t c = let after-minus2 = c in let after_minus = after-minus2 in
     last-read after_minus.if-end-middle.false c.minus.ensures c.entry-2.ensures.0 after_minus.minus-inner.ensures
     after-minus2.entry.ensures.0 after-minus2.minus-start.ensures
 
 applied-few : (t : ℕ) (c : cycle.Lts-applied.After-count-n (applied-cs t) (at applied t) (rank applied).post)
-    → c.count-n.result < (applied-start t c).args.end
+    → c.count-n.result < c.args.end
 applied-few t c = let r = c in
     call-few (applied-read t r) c.if-entry-eq-PLING.false c.count-n.ensures r.requires.1
 
@@ -36,9 +32,9 @@ pub applied-ok : {M : Type 1} (t : ℕ) → cycle.Lts-applied.Closed (applied-cs
 applied-ok t = cycle.Lts-applied.spec (applied-cs t) (at applied t) (rank applied).post (λ c κs. search (needs, primary-part)) (λ c. omega arith)
     (λ c. omega arith) (λ c. search primary-gave) (λ c κs. omega arith) (λ c κs. omega arith) (λ c κs. omega arith) (λ c κs. omega arith)
     (λ c κs. omega arith)
-    (λ c κs. let start = applied-start t (search) in let r = applied-read t (search) in both (omega (arith, start.requires.0)) (search (index-left r)))
+    (λ c κs. let start = c in let r = applied-read t (search) in both (omega (arith, start.requires.0)) (search (index-left r)))
     -- indexed-requires
-    (λ c κs. let start = applied-start t (search) in
+    (λ c κs. let start = c in
     both (omega (arith, start.requires.0)) (index-right (applied-read t (search)) (search) _
     c.applied-a.ensures start.requires.1))
     (λ c. omega arith) (λ c. omega arith)
@@ -47,11 +43,11 @@ applied-ok t = cycle.Lts-applied.spec (applied-cs t) (at applied t) (rank applie
     index-gave (applied-read t (search)) (search) _ after-indexed.applied-a.ensures
     after-indexed.indexed.ensures)
     (λ c κs. omega arith)
-    (λ c κs. let start = applied-start t (search) in both (omega (arith, start.requires.0)) (search (call-args (applied-read t (search)))))
+    (λ c κs. let start = c in both (omega (arith, start.requires.0)) (search (call-args (applied-read t (search)))))
     (λ c. let y = c.requires.1.ready in omega (arith, applied-few t (search)))
     (λ c κs. let y = c.requires.1.ready in omega (arith, applied-few t (search)))
     -- applied-requires-2
-    (λ c κs. let start = applied-start t (search) in let r = applied-read t (search) in
+    (λ c κs. let start = c in let r = applied-read t (search) in
     let after-passed = c in
     both (omega (arith, start.requires.0, left_at))
     (suffixes-ready-at c.raised.ensures (call-callee r (search) _ (search) after-passed.passed-b.ensures start.requires.1)))

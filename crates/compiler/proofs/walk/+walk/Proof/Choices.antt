@@ -125,7 +125,7 @@ switch-ok t = cycle.Lts-switch.spec (switch-cs t) (at switch t) (rank switch).po
     -- table-requires
     (λ c κs. let after-count = c in
     let after-node-at = after-count in
-    let start = after-node-at in let f = switch-fit t after-count in
+    let start = after-node-at in let f = switch-fit t (search) in
     (omega (arith, after-node-at.node_at-n.ensures.inner, start.requires.1.0.small), omega arith, omega arith))
     (λ c κs. omega arith) (λ c. omega (arith, switch-fit t (search)))
     -- cases-requires
@@ -136,7 +136,7 @@ switch-ok t = cycle.Lts-switch.spec (switch-cs t) (at switch t) (rank switch).po
     both (omega (arith, start.requires.0)) (both
     (switch-cases _ after-node-at.node_at-n.ensures start.requires.1.1.is refl _ after-expr.expr-a.ensures after-count.count-k.ensures
     after-fresh.fresh-b.ensures after-doubled.doubled-c.ensures refl after_table.table-d.ensures start.requires.1.0)
-    (omega (arith, switch-fit t after-count))))
+    (omega (arith, switch-fit t (search)))))
     (λ c κs. omega arith)
     -- same-length
     (λ c. c.cases-e.auto.s

@@ -281,7 +281,7 @@ repeated-ok t =
     (repeated-forms _ after-node-at.node_at-n.ensures after-if1.if-n-eq-REPEATED.true refl after-count.count-k.ensures after-fresh.fresh-a.ensures
     after-tops.tops-b.ensures _ start.args.ways after_minus.minus-own.ensures
     (gave-u-at _ refl after-in-loop.in_loop.ensures after-plain.plain-c.ensures) start.requires.1)
-    (omega (arith, repeated-fit t after-count, after_minus.minus-own.ensures))))
+    (omega (arith, repeated-fit t (search), after_minus.minus-own.ensures))))
     (λ c. omega arith) (λ c. omega arith)
     -- returns
     (λ c. let after-forms = c in
