@@ -25,8 +25,8 @@ applied-read t c = let after-minus2 = c in let after_minus = after-minus2 in
 
 applied-few : (t : ℕ) (c : cycle.Lts-applied.After-count-n (applied-cs t) (at applied t) (rank applied).post)
     → c.count-n.result < c.args.end
-applied-few t c = let r = c in
-    call-few (applied-read t r) c.if-entry-eq-PLING.false c.count-n.ensures r.requires.1
+applied-few t c =
+    call-few (applied-read t (search)) c.if-entry-eq-PLING.false c.count-n.ensures c.requires.1
 
 pub applied-ok : {M : Type 1} (t : ℕ) → cycle.Lts-applied.Closed (applied-cs t) (at applied t) (rank applied).post M
 applied-ok t = cycle.Lts-applied.spec (applied-cs t) (at applied t) (rank applied).post (λ c κs. search (needs, primary-part)) (λ c. omega arith)
