@@ -1,4 +1,6 @@
 // A source taken all the way: compiled, assembled and run, with an input, in lent memory (document 01, all three stages).
+#![tactic(auto)]
+
 ghost use Rattle.std.specs.Prelude.{◌≤◌, length, take};
 ghost use Rattle.execution.specs.Executes.{Executes, RunsText};
 
