@@ -13,7 +13,7 @@ use Rattle.assembler.specs.Assemble.{Assembly, Assembles, assembled, numbers}
 use Rattle.assembler.specs.declared.Label.{Label}
 use Rattle.assembler.specs.declared.Assembled.TheVariants as A
 use Rattle.language.specs.State.{State}
-use Rattle.language.specs.Program.{Refused, accepted, refused}
+use Rattle.language.specs.Program.{accepted, refused}
 use Rattle.language.specs.Whole.{refusal_in, strings_in, SourceRunEnds}
 use Rattle.code.specs.Faithful.{placement_of, Follows}
 use Rattle.code.specs.Placed.{Proper}

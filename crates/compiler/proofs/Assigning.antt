@@ -14,7 +14,7 @@ use Rattle.compiler.proofs.Scoping.{keeps-all, keeps_then}
 use Rattle.compiler.specs.Commands.{cmd_says, pairs_says, GaveSide, ReadyU, GaveU}
 use Rattle.compiler.specs.Assigns.{encode_both, deep_both, FineBoth, ReadyAssign, GaveAssign}
 use Rattle.compiler.proofs.Done.{Same, same_refl, same-eq, same-swap, same_then, same-both, did_none, did_then, did-as, code_is}
-use Rattle.compiler.proofs.Trees.{first, second, ends}
+use Rattle.compiler.proofs.Trees.{first, second}
 use Rattle.compiler.proofs.Parts.{sub}
 use Rattle.compiler.proofs.Calls.{IsArg, is-arg, no-arg}
 use Rattle.compiler.proofs.Sides.{place-of, place-closed}

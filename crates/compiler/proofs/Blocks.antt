@@ -15,7 +15,7 @@ use Rattle.compiler.proofs.Vocabulary.{Shows, Keeps, Pushed, State, Here, Ways, 
 use Rattle.compiler.proofs.Vocabulary.{leavable, leavable_by, NodeAt, Did, Holds, cmd_says, cmds_says, ReadyC, GaveC, ReadyU, GaveU, ReadyList}
 use Rattle.compiler.proofs.Vocabulary.{GaveList}
 use Rattle.compiler.proofs.Common.{and, keeps_then, keeps-lower, pushed-keeps, pushed-mark, did_none, did_then, did-as, same_refl, same-eq}
-use Rattle.compiler.proofs.Common.{code_is, IsTwo, ends, moved, First, first_of, Rest, rest_all, taken-sizes, rest-next, Kind, Part, begins}
+use Rattle.compiler.proofs.Common.{code_is, IsTwo, moved, First, first_of, Rest, rest_all, taken-sizes, rest-next, Kind, Part, begins}
 use Rattle.compiler.proofs.Common.{ready-one, rest-length, goes_on_lem, ended, any-expressions}
 use Rattle.compiler.specs.declared.steps.Placed.{Placed}
 use Rattle.compiler.specs.Locals.{Local, a_vector, some_values, with_local, encode_local, local_depth, FineLocal, scope_with, height_with, faults_l}

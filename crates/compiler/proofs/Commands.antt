@@ -12,7 +12,7 @@ use Rattle.compiler.proofs.Vocabulary.{Keeps, Shows, Pushed, PushedName, code, n
 use Rattle.compiler.proofs.Vocabulary.{inside, in_valof, leavable, leavable_by, NodeAt, Emits, Fresh, LeavesTo, Holds, ReadyE, GaveE, ReadyC}
 use Rattle.compiler.proofs.Vocabulary.{GaveC, ReadyU, GaveU}
 use Rattle.compiler.proofs.Common.{keeps-all, keeps_then, keeps-lower, keeps-name, pushed-keeps, pushed-mark, pushed-name, did-put, did_then}
-use Rattle.compiler.proofs.Common.{did-as, did_at, did-fresh, same-eq, same-swap, same_then, code_is, find, is-valof, ends, sub, with-ways}
+use Rattle.compiler.proofs.Common.{did-as, did_at, did-fresh, same-eq, same-swap, same_then, code_is, find, is-valof, sub, with-ways}
 use Rattle.compiler.proofs.Forms as F
 use Rattle.compiler.proofs.Forms.{Form, form-at, same-long}
 

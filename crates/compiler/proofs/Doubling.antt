@@ -9,8 +9,8 @@ use Rattle.language.specs.Resolved as R
 use Rattle.compiler.proofs.Vocabulary.{State, Node, NodeAt, Did, Faulted, Verdict, label_faults, ReadyLabels, JudgesLabels}
 use Rattle.compiler.specs.declared.labels.Span.{Span}
 use Rattle.compiler.specs.Commands.{nothing}
-use Rattle.compiler.specs.Locals.{Says, says_good, says_refused, Judges, Blames}
-use Rattle.compiler.specs.Labels.{a_case, a_default, NextItem, LabelAt, CommandAt, Spans, Listed, marks, flag, Marks, Notes, Marked, JudgesLabel}
+use Rattle.compiler.specs.Locals.{Says, says_refused, Judges, Blames}
+use Rattle.compiler.specs.Labels.{NextItem, LabelAt, CommandAt, Spans, Listed, marks, flag, Marks, Notes, Marked, JudgesLabel}
 use Rattle.compiler.specs.Labels.{JudgesCommand, faults_among}
 use Rattle.compiler.proofs.Common.{did_none, did_then, did-as, same_refl}
 use Rattle.compiler.proofs.Flags.{flag-none, flag-free, flag-here, flag-other, flag-taken, flag-beyond}

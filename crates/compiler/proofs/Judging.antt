@@ -1,7 +1,6 @@
 -- Constants, and one declaration of locals.
 use Rattle.laws.proofs.Basics.{ℕ, ◌+◌, ◌-◌, ◌*◌, ◌/◌, ◌%◌, ◌^◌, ◌<◌, ◌≤◌, ◌≡◌, refl, sym, ap, subst, ◌∙◌, List, [], ◌∷◌, ◌++◌, append-nil, Bool, true}
 use Rattle.laws.proofs.Basics.{false, cond, length, get_or, length-append, leb, arith, le-leb, lt-leb}
-use Rattle.words.specs.Words.{word}
 use Rattle.language.specs.Tree as T
 use Rattle.compiler.proofs.Language.{Name, Simple, Constant, expressions_depth, Scope, lookup, fault, Judged, good, refused, judge, for_vector}
 use Rattle.compiler.proofs.Language.{judged_word, faults_of, signed, of_found, of_simple, within, declare_all, encode_name, encode_names, encode_constant}

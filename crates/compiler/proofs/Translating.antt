@@ -9,7 +9,7 @@ use Rattle.language.specs.Source.{Symbols, good, faulty, symbols_of, parsed, rea
 use Rattle.language.specs.Reader.{Source, Out, ok, no, place_at}
 use Rattle.language.specs.Grammar.{tree_of}
 use Rattle.compiler.proofs.Language.{Program, encode_program}
-use Rattle.language.specs.Program.{Refused, refused, rules_refuse}
+use Rattle.language.specs.Program.{refused, rules_refuse}
 use Rattle.language.specs.Whole.{refusal_of, refusal_in, on_read, unless_fits}
 use Rattle.symbols.specs.Read.{Reads, symbols_read, outcome, entries}
 use Rattle.symbols.specs.declared.SymbolsRead.{SymbolsRead}

@@ -8,7 +8,7 @@ pub by_digits_spec : {M : Type 1} → Rattle.text.proofs.by_digits.Statement.sta
 by_digits_spec = tie.close
     (tie.spec (search needs) (λ c. search (told-mistake, no-first, fails)) (search needs) (λ c. search (told-mistake, no_second, holds, fails))
     (search needs) (λ c. search (told-mistake, no_third, holds, fails))
-    (λ c. let asked = c in digit-least _ (holds asked.is_digit.ensures asked.if-not-is_digit.false)) (search needs)
-    (search needs) (λ c. let asked = c in digit-least _ (holds asked.is_digit-2.ensures asked.if-not-is_digit-2.false)) (search needs)
+    (λ c. digit-least _ (holds c.is_digit.ensures c.if-not-is_digit.false)) (search needs)
+    (search needs) (λ c. digit-least _ (holds c.is_digit-2.ensures c.if-not-is_digit-2.false)) (search needs)
     (search needs) (search needs) (λ c. digit-least _ (holds c.is_digit-3.ensures c.if-not-is_digit-3.false)) (search needs) (search needs)
     (λ c. search (told-mistake, too_large, holds)) (search needs) (λ c. search (told_is, a_byte, holds)))

@@ -16,7 +16,7 @@ returns c = let text = c.args.text.now in
     omega (arith, between_none text c.args.place c.loop-i.i c.if-i-place.true)
 
 loop-again : tie.Need-loop-i-preserved invariant-loop decreases-loop
-loop-again c = let head = c in let args = head.args in let i = head.loop-i.i in
+loop-again c = let args = c.args in let i = c.loop-i.i in
     elim c.if-text-i-eq10.branch [
       | then-text-i-eq10 w ↦ omega (arith, between-newline args.text.now args.place i (omega arith) (omega arith) w.if-text-i-eq10.true)
       | else-text-i-eq10 w ↦ omega (arith, between-other args.text.now args.place i (omega arith) (omega arith) w.if-text-i-eq10.false)

@@ -16,11 +16,9 @@ all_pairs_spec =
       omega arith,
       search still-then,
       omega arith,
-      (let after-labels-of = c in
-          let after-next-item = after-labels-of in let after-loop-test = after-next-item in
-          let after-loop = after-loop-test in λ y so. table-next _ _ _ _ after-loop-test.loop-at-test.true
-          after-next-item.next_item-next.ensures after-labels-of.labels_of-l.ensures c.pairs-r.ensures y
-          (after-loop.loop-at.invariant.3 y so)),
+      (
+          λ y so. table-next _ _ _ _ c.loop-at-test.true
+          c.next_item-next.ensures c.labels_of-l.ensures c.pairs-r.ensures y
+          (c.loop-at.invariant.3 y so)),
     )) (search needs)
-    (λ c. let start = c in
-    table-end _ _ _ start.args.st _ c.loop-at-test.false c.loop-at.invariant.1 c.loop-at.invariant.3))
+    (λ c. table-end _ _ _ c.args.st _ c.loop-at-test.false c.loop-at.invariant.1 c.loop-at.invariant.3))

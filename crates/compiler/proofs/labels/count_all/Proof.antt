@@ -14,10 +14,10 @@ count_all_spec = tie.close (tie.spec invariant-loop (λ s from end at₀ n₀ at
     -- loop-again
     (λ c. (
       omega arith,
-      (let after-loop-test = c in let after-loop = after-loop-test in
-          let start = after-loop in λ lss r. count_next (commands _) start.args.s.now _ _ after-loop-test.loop-at-test.true
+      (
+          λ lss r. count_next (commands _) c.args.s.now _ _ c.loop-at-test.true
           c.next_item-next.ensures (λ ls q. c.count_cases-n.ensures.by ls (c.labels_of-l.ensures.by ls q)) lss
-          (after-loop.loop-at.invariant.1 lss r)),
+          (c.loop-at.invariant.1 lss r)),
     ))
     (λ c. record {
       by = λ lss r. count-end (commands _) _ c.args.end c.loop-at-test.false lss (c.loop-at.invariant.1 lss r);

@@ -11,10 +11,9 @@ doubled_spec = tie.close (tie.spec invariant-loop (λ source s from end top seen
     (λ c. (search marks-long, λ y. search list-begin)) (search needs) (λ c κs. omega arith) (search needs)
     (λ c _. c.labels_of-l.ensures.small) (λ c. omega arith)
     -- loop-again
-    (λ c. let after-labels-of = c in let after-next-item = after-labels-of in
-    let after-loop-test = after-next-item in let after-loop = after-loop-test in (
+    (λ c. (
       omega arith,
-      λ y. list-next _ _ after-loop-test.loop-at-test.true after-next-item.next_item-next.ensures after-labels-of.labels_of-l.ensures
-          c.doubled_in-r.ensures y (after-loop.loop-at.invariant.1 y),
+      λ y. list-next _ _ c.loop-at-test.true c.next_item-next.ensures c.labels_of-l.ensures
+          c.doubled_in-r.ensures y (c.loop-at.invariant.1 y),
     ))
     (λ c. list-end _ _ c.loop-at-test.false c.loop-at.invariant.1))

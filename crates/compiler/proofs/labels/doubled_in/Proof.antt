@@ -13,9 +13,8 @@ pub doubled_in_spec : {M : Type 1} → Rattle.compiler.proofs.labels.doubled_in.
 doubled_in_spec = tie.close (tie.spec invariant-loop (λ source s from end top seen₀ at₀ r₀ seen at r. end - at) (λ c. (refl, λ y first m. search own-begin))
     (search needs) (λ c κs. omega arith) (λ c. omega arith)
     -- loop-again
-    (λ c. let after-next-item = c in let after-loop-test = after-next-item in
-    let after-loop = after-loop-test in let start = after-loop in (
+    (λ c. (
       omega arith,
-      λ y first m. own-next _ start.args.st after-loop-test.loop-at-test.true after-next-item.next_item-next.ensures
-          c.doubled_label-r.ensures y first (after-loop.loop-at.invariant.1 y first m),
+      λ y first m. own-next _ c.args.st c.loop-at-test.true c.next_item-next.ensures
+          c.doubled_label-r.ensures y first (c.loop-at.invariant.1 y first m),
     )) (search needs) (λ c. search own-end))

@@ -15,7 +15,7 @@ pairs_spec =
     (λ c. (
       omega arith,
       search still-then,
-      (let after-next-item = c in let after-loop-test = after-next-item in
-          let after-loop = after-loop-test in λ y so. pairs_next _ _ _ _ after-loop-test.loop-at-test.true
-          after-next-item.next_item-next.ensures c.pair-r.ensures y (after-loop.loop-at.invariant.2 y so)),
+      (
+          λ y so. pairs_next _ _ _ _ c.loop-at-test.true
+          c.next_item-next.ensures c.pair-r.ensures y (c.loop-at.invariant.2 y so)),
     )) (search needs) (λ c. search pairs_end))

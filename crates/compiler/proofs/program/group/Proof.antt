@@ -14,25 +14,18 @@ pub group_spec : {M : Type 1} → Rattle.compiler.proofs.program.group.Statement
 group_spec = tie.close (tie.spec invariant-loop (λ source s₀ from end text₀ here label at₀ l₀ r₀ tall₀ s text at l r tall. end - at)
     (λ c. (refl, refl, λ y before k. search group-begin)) (λ c. omega arith) (search needs) (λ c. omega arith)
     -- function-requires
-    (λ c κs. let after-loop-test = c in let after-loop = after-loop-test in
-    let start = after-loop in
-    group-ready _ _ _ _ after-loop-test.loop-at-test.true c.entry.ensures.0 refl start.requires.0
-    (after-loop.loop-at.invariant.2 start.requires.0 outermost 0))
+    (λ c κs. group-ready _ _ _ _ c.loop-at-test.true c.entry.ensures.0 refl c.requires.0
+    (c.loop-at.invariant.2 c.requires.0 outermost 0))
     (λ c. omega arith) (search needs) (λ c _. c.entry-place.ensures.1) (search needs)
     -- add-l
-    (λ c. let after-entry = c in
-    let after-loop-test = after-entry in let after-loop = after-loop-test in
-    let start = after-loop in
-    let fits = group-fits _ _ _ _ after-loop-test.loop-at-test.true after-entry.entry.ensures.0 refl start.requires.0
-    (after-loop.loop-at.invariant.2 start.requires.0 outermost 0) in omega arith)
+    (λ c. let fits = group-fits _ _ _ _ c.loop-at-test.true c.entry.ensures.0 refl c.requires.0
+    (c.loop-at.invariant.2 c.requires.0 outermost 0) in omega arith)
     (λ c. omega arith)
     -- loop-again
-    (λ c. let after-function = c in
-    let after-entry = after-function in let after-loop-test = after-entry in
-    let after-loop = after-loop-test in (
+    (λ c. (
       omega arith,
       omega arith,
-      λ y before k. group-next _ _ _ _ after-loop-test.loop-at-test.true after-entry.entry.ensures.0 refl y
-          (after-loop.loop-at.invariant.2 y before k) after-function.function-a.ensures c.entry-place.ensures.0
+      λ y before k. group-next _ _ _ _ c.loop-at-test.true c.entry.ensures.0 refl y
+          (c.loop-at.invariant.2 y before k) c.function-a.ensures c.entry-place.ensures.0
           c.entry-place.ensures.1 c.too_tall-tall.ensures c.level-r.ensures,
     )) (search needs) (search needs) (λ c. group-end _ _ _ _ c.loop-at-test.false c.loop-at.invariant.2))

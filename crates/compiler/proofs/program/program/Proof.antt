@@ -14,20 +14,15 @@ program_spec = tie.close (tie.spec invariant-loop (λ source s₀ table₀ base 
     (λ c. (refl, refl, refl, λ y. search program-begin)) (λ c. omega arith) (search needs) (λ c. omega arith) (λ c. omega arith) (search needs)
     (λ c. omega arith)
     -- declaration-requires
-    (λ c κs. let after-entry2 = c in let after-entry = after-entry2 in
-    let after-loop-test = after-entry in let after-loop = after-loop-test in
-    let start = after-loop in
-    program-ready _ _ _ after-loop-test.loop-at-test.true after-entry.entry.ensures.0 refl after-entry2.entry-tag.ensures.0 start.requires
-    (after-loop.loop-at.invariant.3 start.requires))
+    (λ c κs. program-ready _ _ _ c.loop-at-test.true c.entry.ensures.0 refl c.entry-tag.ensures.0 c.requires
+    (c.loop-at.invariant.3 c.requires))
     (λ c. omega arith)
     -- loop-again
-    (λ c. let after-declaration = c in
-    let after-entry2 = after-declaration in let after-entry = after-entry2 in
-    let after-loop-test = after-entry in let after-loop = after-loop-test in (
+    (λ c. (
       omega arith,
-      after-declaration.declaration-l.auto.table ∙ after-loop.loop-at.invariant.1,
+      c.declaration-l.auto.table ∙ c.loop-at.invariant.1,
       omega arith,
       λ y. program-next _ _ _
-          after-loop-test.loop-at-test.true after-entry.entry.ensures.0 refl after-entry2.entry-tag.ensures.0 y (after-loop.loop-at.invariant.3 y)
-          after-declaration.declaration-l.ensures,
+          c.loop-at-test.true c.entry.ensures.0 refl c.entry-tag.ensures.0 y (c.loop-at.invariant.3 y)
+          c.declaration-l.ensures,
     )) (search needs) (search needs) (search needs) (λ c. search program-end))

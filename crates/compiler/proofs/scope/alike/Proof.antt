@@ -8,7 +8,7 @@ alike_spec =
     (λ c. omega arith) (λ c. omega arith) (λ c. omega arith) (λ c. let byte = c.shared_slice_known-1.given
     (c.args.p + (c.args.n - 1)) in omega arith)
     -- returns-3
-    (λ c. (let start = c in
-    differs start.args.source.now start.args.p start.args.q start.args.n (omega arith) (omega arith) (omega arith)
-    (λ e. c.if-source-p-2.true (e ∙ sym start.requires.3))))
+    (λ c. (
+    differs c.args.source.now c.args.p c.args.q c.args.n (omega arith) (omega arith) (omega arith)
+    (λ e. c.if-source-p-2.true (e ∙ sym c.requires.3))))
     (λ c κs. omega arith) (λ c. search needs))

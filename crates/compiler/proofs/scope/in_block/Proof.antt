@@ -15,29 +15,24 @@ in_block_spec = tie.close (tie.spec invariant-loop (λ source s top leaf width p
     (λ c _. (c.entry-place.ensures.1, c.entry-width.ensures.1)) (λ c. (omega arith, λ sc h. left-all _ sc h)) (λ c. omega arith)
     (λ c κs. omega arith)
     -- returns-2
-    (λ c. let after-loop = c in let start = after-loop in
-    record {
-      by = λ sc h. let l = after-loop.loop-at.invariant.1 sc h in sym (ap found (l.same ∙ in-open _ _ start.args.leaf _
+    (λ c. record {
+      by = λ sc h. let l = c.loop-at.invariant.1 sc h in sym (ap found (l.same ∙ in-open _ _ c.args.leaf _
           c.loop-at-test.true c.stacked-m.ensures.0 l.shows c.if-m-eq0.true));
     })
     (λ c κs. omega arith) (λ c κs. omega arith)
     -- returns-3
-    (λ c. let after-if2 = c in let after-stacked = after-if2 in let after-loop-test = after-stacked in
-    let after-loop = after-loop-test in let after-entry2 = after-loop in let after-entry = after-entry2 in
-    record {
-      by = λ sc h. let l = after-loop.loop-at.invariant.1 sc h in in-found _ _ _ _ after-loop-test.loop-at-test.true
-          after-stacked.stacked-m.ensures.0 after-if2.if-m-eq0.false c.stacked.ensures.0 after-entry.entry-width.ensures.0
-          after-entry2.entry-place.ensures.0 l.shows (sym c.if-spelt.true ∙ c.spelt.ensures) ∙ ap found (sym l.same);
+    (λ c. record {
+      by = λ sc h. let l = c.loop-at.invariant.1 sc h in in-found _ _ _ _ c.loop-at-test.true
+          c.stacked-m.ensures.0 c.if-m-eq0.false c.stacked.ensures.0 c.entry-width.ensures.0
+          c.entry-place.ensures.0 l.shows (sym c.if-spelt.true ∙ c.spelt.ensures) ∙ ap found (sym l.same);
     })
     (λ c. omega arith)
     -- loop-again
     (λ c. (
       omega arith,
-      (let after-if2 = c in let after-stacked = after-if2 in
-          let after-loop-test = after-stacked in let after-loop = after-loop-test in let after-entry2 = after-loop in
-          let after-entry = after-entry2 in let start = after-entry in
-          λ sc h. let l = after-loop.loop-at.invariant.1 sc h in left-then _ sc l (in-other _ _ start.args.leaf _ after-loop-test.loop-at-test.true
-          after-stacked.stacked-m.ensures.0 after-if2.if-m-eq0.false c.stacked.ensures.0 after-entry.entry-width.ensures.0
-          after-entry2.entry-place.ensures.0 l.shows (sym c.if-spelt.false ∙ c.spelt.ensures))),
+      (
+          λ sc h. let l = c.loop-at.invariant.1 sc h in left-then _ sc l (in-other _ _ c.args.leaf _ c.loop-at-test.true
+          c.stacked-m.ensures.0 c.if-m-eq0.false c.stacked.ensures.0 c.entry-width.ensures.0
+          c.entry-place.ensures.0 l.shows (sym c.if-spelt.false ∙ c.spelt.ensures))),
     ))
     (λ c. (record { by = λ sc h. let l = c.loop-at.invariant.1 sc h in sym (ap found (l.same ∙ in-outer _ _ _ _ l.shows (omega arith))) })))

@@ -23,8 +23,8 @@ lookup_spec = tie.close (tie.spec invariant-loop (λ source s top leaf width pla
     (λ c. (omega arith, c.search.invariant.0, c.search.invariant.1))
     -- returns-2
     (λ c. (
-      (let start = c in record {
-        by = λ sc h. let l = c.loop-at.invariant.2 sc h in sym (ap found (l.same ∙ at-outer _ start.args.s.now _ _ l.shows
+      (record {
+        by = λ sc h. let l = c.loop-at.invariant.2 sc h in sym (ap found (l.same ∙ at-outer _ c.args.s.now _ _ l.shows
             c.if-at-lt2.true));
       }),
       omega arith,
@@ -33,7 +33,7 @@ lookup_spec = tie.close (tie.spec invariant-loop (λ source s top leaf width pla
     -- search-again
     (λ c. (
       omega arith,
-      (let after-loop = c in λ sc h. let l = after-loop.loop-at.invariant.2 sc h in
+      (λ sc h. let l = c.loop-at.invariant.2 sc h in
           left-then _ sc l (at_open _ _ _ _ c.if-at-lt2.false c.stacked.ensures.0 l.shows c.if-stacked-eq0.true)),
     ))
     (λ c κs. omega arith) (λ c κs. omega arith) (λ c. omega arith)
@@ -41,22 +41,18 @@ lookup_spec = tie.close (tie.spec invariant-loop (λ source s top leaf width pla
     (λ c. (
       omega arith,
       omega arith,
-      (let after-if3 = c in let after-stacked = after-if3 in
-          let after-if2 = after-stacked in let after-loop = after-if2 in let after-entry2 = after-loop in
-          let after-entry = after-entry2 in let start = after-entry in
-          λ sc h. let l = after-loop.loop-at.invariant.2 sc h in left-then _ sc l (at_other _ _ start.args.leaf _ after-if2.if-at-lt2.false
-          after-stacked.stacked.ensures.0 after-if3.if-stacked-eq0.false c.stacked-in-loop-at.ensures.0 after-entry.entry-width.ensures.0
-          after-entry2.entry-place.ensures.0 l.shows (sym c.if-spelt.false ∙ c.spelt.ensures))),
+      (
+          λ sc h. let l = c.loop-at.invariant.2 sc h in left-then _ sc l (at_other _ _ c.args.leaf _ c.if-at-lt2.false
+          c.stacked.ensures.0 c.if-stacked-eq0.false c.stacked-in-loop-at.ensures.0 c.entry-width.ensures.0
+          c.entry-place.ensures.0 l.shows (sym c.if-spelt.false ∙ c.spelt.ensures))),
     ))
     (λ c. omega arith) (λ c κs. omega arith)
     -- returns-3
-    (λ c. let after-stacked2 = c in let after-if3 = after-stacked2 in let after-stacked = after-if3 in
-    let after-if2 = after-stacked in let after-loop = after-if2 in let after-entry2 = after-loop in
-    let after-entry = after-entry2 in let start = after-entry in (
+    (λ c. (
       record {
-        by = λ sc h. let l = after-loop.loop-at.invariant.2 sc h in at-found _ _ start.args.leaf _ after-if2.if-at-lt2.false
-            c.stacked-2.ensures.0 (λ e. after-if3.if-stacked-eq0.false (after-stacked.stacked.ensures.0 ∙ sym c.stacked-2.ensures.0 ∙ e))
-            after-stacked2.stacked-in-loop-at.ensures.0 after-entry.entry-width.ensures.0 after-entry2.entry-place.ensures.0 l.shows
+        by = λ sc h. let l = c.loop-at.invariant.2 sc h in at-found _ _ c.args.leaf _ c.if-at-lt2.false
+            c.stacked-2.ensures.0 (λ e. c.if-stacked-eq0.false (c.stacked.ensures.0 ∙ sym c.stacked-2.ensures.0 ∙ e))
+            c.stacked-in-loop-at.ensures.0 c.entry-width.ensures.0 c.entry-place.ensures.0 l.shows
             (sym c.if-spelt.true ∙ c.spelt.ensures) ∙ ap found (sym l.same);
       },
       c.stacked-2.ensures.1,

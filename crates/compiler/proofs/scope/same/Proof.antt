@@ -11,15 +11,15 @@ pub same_spec : {M : Type 1} → Rattle.compiler.proofs.scope.same.Statement.sta
 same_spec = tie.close (tie.spec invariant-loop (λ source p q n i₀ i. i) (λ c. (omega arith, refl)) (λ c. omega arith) (λ c. omega arith) (λ c. omega arith)
     (λ c. omega arith) (λ c. omega arith)
     -- returns
-    (λ c. (let after-loop = c in let start = after-loop in
-    differs start.args.source.now start.args.p start.args.q after-loop.loop-i.i (omega arith) (omega arith) (omega arith)
+    (λ c. (
+    differs c.args.source.now c.args.p c.args.q c.loop-i.i (omega arith) (omega arith) (omega arith)
     c.if-source-p.true ∙ sym (search needs)))
     (λ c. omega arith)
     -- loop-again
     (λ c. (
       omega arith,
-      (let after-loop = c in let start = after-loop in after-loop.loop-i.invariant.1 ∙ one_fewer
-          start.args.source.now start.args.p start.args.q after-loop.loop-i.i (omega arith) (omega arith) (omega arith)
+      (c.loop-i.invariant.1 ∙ one_fewer
+          c.args.source.now c.args.p c.args.q c.loop-i.i (omega arith) (omega arith) (omega arith)
           c.if-source-p.false),
     ))
     (λ c. all-passed _ _ c.loop-i.i (omega arith) ∙ sym c.loop-i.invariant.1))

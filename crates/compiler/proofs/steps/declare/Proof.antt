@@ -13,11 +13,10 @@ abbrev decreases-loop : tie.decreases-loop-at
 decreases-loop source s₀ from end top height at₀ k₀ r₀ s at k r = end - at
 
 -- what a name needs
-fit : (c : tie.In-loop-at invariant-loop decreases-loop) → let start = c in let l = c.loop-at in
-    (start.args.top + 2 * l.k + 2 ≤ length l.s) × (start.args.height + l.k < 2 ^ 29) × (l.at < 2 ^ 32)
-    × (start.args.top + 2 * l.k + 2 ≤ start.requires.base) × FineName (name_at l.s l.at)
-fit c = let start = c in
-    names-fit start.args.source.now c.loop-at.k c.loop-at-test.true start.requires (c.loop-at.invariant.1 start.requires)
+fit : (c : tie.In-loop-at invariant-loop decreases-loop) → let l = c.loop-at in
+    (c.args.top + 2 * l.k + 2 ≤ length l.s) × (c.args.height + l.k < 2 ^ 29) × (l.at < 2 ^ 32)
+    × (c.args.top + 2 * l.k + 2 ≤ c.requires.base) × FineName (name_at l.s l.at)
+fit c = names-fit c.args.source.now c.loop-at.k c.loop-at-test.true c.requires (c.loop-at.invariant.1 c.requires)
 
 pub declare_spec : {M : Type 1} → Rattle.compiler.proofs.steps.declare.Statement.statement M
 declare_spec =
@@ -27,10 +26,8 @@ declare_spec =
     (λ c κs. let w = fit (search) in (omega arith, omega arith, omega arith, w.4)) (λ c. omega (arith, fit (search))) (λ c. omega arith)
     (λ c. omega arith)
     -- loop-again
-    (λ c. let after-again = c in let after-entry = after-again in
-    let after-in-block = after-entry in let after-loop-test = after-in-block in
-    let after-loop = after-loop-test in (
+    (λ c. (
       omega arith,
-      λ y. names-next _ _ after-loop-test.loop-at-test.true after-in-block.in_block-m.ensures after-entry.entry-place.ensures.0
-          after-again.again-r.ensures c.push_name.ensures refl y (after-loop.loop-at.invariant.1 y),
+      λ y. names-next _ _ c.loop-at-test.true c.in_block-m.ensures c.entry-place.ensures.0
+          c.again-r.ensures c.push_name.ensures refl y (c.loop-at.invariant.1 y),
     )) (search needs) (λ c. names-end _ _ c.loop-at-test.false c.loop-at.invariant.1))

@@ -7,13 +7,8 @@ pub for_test_spec : {M : Type 1} → Rattle.compiler.proofs.steps.for_test.State
 for_test_spec = tie.close (tie.spec (search needs) (search needs) (search needs) (search needs) (search needs) (search needs)
     (λ c. let start : tie.Start = search in omega arith) (search needs)
     -- same-length
-    (λ c. let after-put3 = c in let after-put2 = after-put3 in
-    let after-put = after-put2 in let after-mark = after-put in
-    c.put_to.auto.text ∙ after-put3.put-d.auto.text ∙ after-put2.put-c.auto.text ∙ after-put.put-b.auto.text ∙ after-mark.mark-a.auto.text)
+    (λ c. c.put_to.auto.text ∙ c.put-d.auto.text ∙ c.put-c.auto.text ∙ c.put-b.auto.text ∙ c.mark-a.auto.text)
     -- returns
-    (λ c. let after-put3 = c in let after-limit-act = after-put3 in
-    let after-put2 = after-limit-act in let after-put = after-put2 in
-    let after-mark = after-put in
-    emits_then after-mark.mark-a.ensures (emits_then after-put.put-b.ensures
-    (emits_then after-put2.put-c.ensures (emits_then (act-is after-limit-act.limit_act.ensures after-put3.put-d.ensures)
+    (λ c. emits_then c.mark-a.ensures (emits_then c.put-b.ensures
+    (emits_then c.put-c.ensures (emits_then (act-is c.limit_act.ensures c.put-d.ensures)
     c.put_to.ensures)))))

@@ -9,9 +9,5 @@ vector_spec = tie.close (tie.spec (search needs) (search needs) (λ c _. c.judge
     (λ c. let j : tie.After-judge_most-j = search in let y : tie.Start = search in omega arith)
     (λ c. let j : tie.After-judge_most-j = search in let y : tie.Start = search in omega arith) (search needs) (search needs)
     -- returns
-    (λ c. let after-vector-code = c in
-    let after-declare = after-vector-code in let after-blame = after-declare in
-    let after-judge-most = after-blame in let after-node-at = after-judge-most in
-    let start = after-node-at in
-    vector-gave _ after-node-at.node_at-n.ensures start.requires.1.is start.args.source.now refl after-judge-most.judge_most-j.ensures
-    after-blame.blame-a.ensures after-declare.declare-b.ensures after-vector-code.vector_code-c.ensures refl))
+    (λ c. vector-gave _ c.node_at-n.ensures c.requires.1.is c.args.source.now refl c.judge_most-j.ensures
+    c.blame-a.ensures c.declare-b.ensures c.vector_code-c.ensures refl))

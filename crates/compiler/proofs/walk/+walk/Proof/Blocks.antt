@@ -3,7 +3,7 @@ use Rattle.compiler.proofs as proofs
 use proofs.steps as steps
 use Rattle.compiler.proofs.walk.+walk as cycle
 use Rattle.compiler.specs.Commands.{ReadyList}
-use Rattle.laws.proofs.Basics.{ℕ, ◌-◌, ◌≡◌, refl, length, set_at, arith, needs}
+use Rattle.laws.proofs.Basics.{ℕ, ◌-◌, ◌≡◌, refl, length, arith, needs}
 use Rattle.compiler.proofs.Blocks.{ListPart, list-begin, list-part, list-next, list-end, LocalsPart, locals-begin, locals-part, locals-next}
 use Rattle.compiler.proofs.Blocks.{locals-end, locals-ready-at, list-ready-at, local-gave-at, locals-gave-at, list-gave-at, block_room}
 use Rattle.compiler.proofs.Blocks.{block-locals, block-list, block-gave}
@@ -18,32 +18,22 @@ block-cs t = six (steps.node_at.Reads.Asked, steps.node_at.Reads.Learnt) (proofs
 
 pub block-ok : {M : Type 1} (t : ℕ) → cycle.Lts-block.Closed (block-cs t) (at block t) (rank block).post M
 block-ok t = cycle.Lts-block.spec (block-cs t) (at block t) (rank block).post (λ c κs. omega arith) (λ c. omega arith)
-    (λ c κs. let start = c in
-    ((block_room _ c.node_at-n.ensures start.requires.1.1.is refl start.requires.1.0).1, omega arith, omega arith))
+    (λ c κs. ((block_room _ c.node_at-n.ensures c.requires.1.1.is refl c.requires.1.0).1, omega arith, omega arith))
     -- marked-requires
-    (λ c κs. let after-node-at = c in
-    let start = after-node-at in
-    let block-room-is = (block_room _ after-node-at.node_at-n.ensures start.requires.1.1.is refl start.requires.1.0).0 in
-    let above = start.requires.1.0.above in let ends = start.requires.1.0.ends in let small = start.requires.1.0.small in omega arith)
+    (λ c κs. let block-room-is = (block_room _ c.node_at-n.ensures c.requires.1.1.is refl c.requires.1.0).0 in
+    let above = c.requires.1.0.above in let ends = c.requires.1.0.ends in let small = c.requires.1.0.small in omega arith)
     (λ c κs. both (let falls = c.requires.0 in
     omega (arith, left_at)) (search (locals-ready-at, block-locals)))
     (λ c κs. omega arith)
     -- list-requires
-    (λ c κs. let after-locals = c in let after-marked = after-locals in
-    let after_push = after-marked in let after-node-at = after_push in
-    let start = after-node-at in
-    both (omega (arith, start.requires.0, left_at))
-    (list-ready-at c.set_at.ensures (block-list _ after-node-at.node_at-n.ensures start.requires.1.1.is refl after_push.push.ensures _
-    (locals-gave-at after-marked.marked.ensures after-locals.locals-a.ensures) start.requires.1.0)))
+    (λ c κs. both (omega (arith, c.requires.0, left_at))
+    (list-ready-at c.set_at.ensures (block-list _ c.node_at-n.ensures c.requires.1.1.is refl c.push.ensures _
+    (locals-gave-at c.marked.ensures c.locals-a.ensures) c.requires.1.0)))
     (λ c. omega arith) (λ c. omega arith)
     -- returns
-    (λ c. let after_List = c in let after-set-at = after_List in
-    let after-locals = after-set-at in let after-marked = after-locals in
-    let after_push = after-marked in let after-node-at = after_push in
-    let start = after-node-at in
-    block-gave _ after-node-at.node_at-n.ensures start.requires.1.1.is refl after_push.push.ensures _
-    (locals-gave-at after-marked.marked.ensures after-locals.locals-a.ensures) _
-    (list-gave-at after-set-at.set_at.ensures after_List.list.ensures))
+    (λ c. block-gave _ c.node_at-n.ensures c.requires.1.1.is refl c.push.ensures _
+    (locals-gave-at c.marked.ensures c.locals-a.ensures) _
+    (list-gave-at c.set_at.ensures c.list.ensures))
 
 abbrev list-cs : ℕ → cycle.Lts-list.Claims
 list-cs t = (proofs.scope.entry.Reads.Asked, proofs.scope.entry.Reads.Learnt, below command t, (rank command).post)
@@ -57,10 +47,8 @@ list-ok t =
     cycle.Lts-list.spec (list-cs t) (at list t) (rank list).post list-Inv-loop (λ source s₀ from end text₀ here ways at₀ r₀ s text at r. end - at)
     (λ c. search (needs, list-begin)) (λ c. omega arith) (λ c κs. omega arith) (λ c. omega (arith, c.entry.ensures.1))
     -- command-requires
-    (λ c κs. let after-loop-test = c in let after-loop = after-loop-test in
-    let start = after-loop in
-    both (omega arith) (list-part _ _ _ after-loop-test.loop-at-test.true c.entry.ensures.0 refl start.requires.1
-    (after-loop.loop-at.invariant.2 start.requires.1)))
+    (λ c κs. both (omega arith) (list-part _ _ _ c.loop-at-test.true c.entry.ensures.0 refl c.requires.1
+    (c.loop-at.invariant.2 c.requires.1)))
     (λ c. omega arith)
     (λ c. let in-loop = c.loop-at in
     (omega arith, omega arith, λ y. search (list-next, in-loop.invariant.2)))
@@ -75,19 +63,14 @@ local-ok t = cycle.Lts-local.spec (local-cs t) (at local t) (rank local).post (�
     (λ c. omega arith) (λ c. c.vector.ensures) (λ c. omega arith) (λ c κs. search (needs, values-args))
     (λ c κs. search values-names)
     -- add-t25
-    (λ c. let after-node-at = c in let start = after-node-at in
-    let value_fits = after-node-at.node_at-n.ensures.value_fits in let room = start.requires.1.room in let above = start.requires.1.above in
-    let ends = start.requires.1.ends in let small = start.requires.1.small in omega arith)
+    (λ c. let value_fits = c.node_at-n.ensures.value_fits in let room = c.requires.1.room in let above = c.requires.1.above in
+    let ends = c.requires.1.ends in let small = c.requires.1.small in omega arith)
     -- add-t27
-    (λ c. let after-node-at = c in let start = after-node-at in
-    omega (arith, after-node-at.node_at-n.ensures.value_fits, start.requires.1.height))
+    (λ c. omega (arith, c.node_at-n.ensures.value_fits, c.requires.1.height))
     (λ c. omega arith) (λ c. omega arith)
     -- returns-2
-    (λ c. let after-declare = c in
-    let after-args2 = after-declare in let after-if1 = after-args2 in
-    let after-node-at = after-if1 in
-    values-gave _ after-node-at.node_at-n.ensures after-if1.if-n-eq-VEC.false refl _ after-args2.args-a.ensures
-    after-declare.declare-b.ensures refl refl)
+    (λ c. values-gave _ c.node_at-n.ensures c.if-n-eq-VEC.false refl _ c.args-a.ensures
+    c.declare-b.ensures refl refl)
 
 abbrev locals-cs : ℕ → cycle.Lts-locals.Claims
 locals-cs t =
@@ -104,19 +87,15 @@ pub locals-ok : {M : Type 1} (t : ℕ) → cycle.Lts-locals.Closed (locals-cs t)
 locals-ok t = cycle.Lts-locals.spec (locals-cs t) (at locals t) (rank locals).post locals-Inv-loop locals-μ-loop (λ c. search (needs, locals-begin))
     (λ c. omega arith) (λ c κs. omega arith) (λ c. omega (arith, c.entry.ensures.1)) (λ c κs. omega arith)
     -- local-requires
-    (λ c κs. let after-set-at = c in let after-entry = after-set-at in
-    let after-loop-test = after-entry in let after-loop = after-loop-test in
-    let start = after-loop in
-    both (omega (arith, start.requires.0, left_at)) (ready_at after-set-at.set_at-now.ensures
-    (locals-part _ _ after-loop-test.loop-at-test.true after-entry.entry.ensures.0 refl start.requires.1
-    (after-loop.loop-at.invariant.2 start.requires.1))))
+    (λ c κs. both (omega (arith, c.requires.0, left_at)) (ready_at c.set_at-now.ensures
+    (locals-part _ _ c.loop-at-test.true c.entry.ensures.0 refl c.requires.1
+    (c.loop-at.invariant.2 c.requires.1))))
     (λ c. omega arith)
     -- loop-again
-    (λ c. let after-local = c in let after-set-at = after-local in
-    let after-entry = after-set-at in let after-loop-test = after-entry in let after-loop = after-loop-test in (
+    (λ c. (
       omega arith,
       omega arith,
-      λ y. locals-next _ _ after-loop-test.loop-at-test.true after-entry.entry.ensures.0 refl (local-gave-at
-          after-set-at.set_at-now.ensures after-local.local-r.ensures) y (after-loop.loop-at.invariant.2 y),
+      λ y. locals-next _ _ c.loop-at-test.true c.entry.ensures.0 refl (local-gave-at
+          c.set_at-now.ensures c.local-r.ensures) y (c.loop-at.invariant.2 y),
     ))
     (λ c. omega arith) (λ c. omega arith) (λ c. search locals-end)

@@ -19,44 +19,37 @@ applied-cs t =
 applied-read : (t : ℕ) (c : cycle.Lts-applied.After-entry-2 (applied-cs t) (at applied t) (rank applied).post)
     → let args = c.args in LastRead args.s.now args.middle args.end c.entry-2.result
     c.minus-inner.result c.minus-start.result
-applied-read t c = let after-minus2 = c in let after_minus = after-minus2 in
-    last-read after_minus.if-end-middle.false c.minus.ensures c.entry-2.ensures.0 after_minus.minus-inner.ensures
-    after-minus2.entry.ensures.0 after-minus2.minus-start.ensures
+applied-read t c = last-read c.if-end-middle.false c.minus.ensures c.entry-2.ensures.0 c.minus-inner.ensures
+    c.entry.ensures.0 c.minus-start.ensures
 
 applied-few : (t : ℕ) (c : cycle.Lts-applied.After-count-n (applied-cs t) (at applied t) (rank applied).post)
     → c.count-n.result < c.args.end
-applied-few t c =
-    call-few (applied-read t (search)) c.if-entry-eq-PLING.false c.count-n.ensures c.requires.1
+applied-few t c = call-few (applied-read t (search)) c.if-entry-eq-PLING.false c.count-n.ensures c.requires.1
 
 pub applied-ok : {M : Type 1} (t : ℕ) → cycle.Lts-applied.Closed (applied-cs t) (at applied t) (rank applied).post M
 applied-ok t = cycle.Lts-applied.spec (applied-cs t) (at applied t) (rank applied).post (λ c κs. search (needs, primary-part)) (λ c. omega arith)
     (λ c. omega arith) (λ c. search primary-gave) (λ c κs. omega arith) (λ c κs. omega arith) (λ c κs. omega arith) (λ c κs. omega arith)
     (λ c κs. omega arith)
-    (λ c κs. let start = c in let r = applied-read t (search) in both (omega (arith, start.requires.0)) (search (index-left r)))
+    (λ c κs. let r = applied-read t (search) in both (omega (arith, c.requires.0)) (search (index-left r)))
     -- indexed-requires
-    (λ c κs. let start = c in
-    both (omega (arith, start.requires.0)) (index-right (applied-read t (search)) (search) _
-    c.applied-a.ensures start.requires.1))
+    (λ c κs. both (omega (arith, c.requires.0)) (index-right (applied-read t (search)) (search) _
+    c.applied-a.ensures c.requires.1))
     (λ c. omega arith) (λ c. omega arith)
     -- returns-2
-    (λ c. let after-indexed = c in
-    index-gave (applied-read t (search)) (search) _ after-indexed.applied-a.ensures
-    after-indexed.indexed.ensures)
+    (λ c. index-gave (applied-read t (search)) (search) _ c.applied-a.ensures
+    c.indexed.ensures)
     (λ c κs. omega arith)
-    (λ c κs. let start = c in both (omega (arith, start.requires.0)) (search (call-args (applied-read t (search)))))
+    (λ c κs. both (omega (arith, c.requires.0)) (search (call-args (applied-read t (search)))))
     (λ c. let y = c.requires.1.ready in omega (arith, applied-few t (search)))
     (λ c κs. let y = c.requires.1.ready in omega (arith, applied-few t (search)))
     -- applied-requires-2
-    (λ c κs. let start = c in let r = applied-read t (search) in
-    let after-passed = c in
-    both (omega (arith, start.requires.0, left_at))
-    (suffixes-ready-at c.raised.ensures (call-callee r (search) _ (search) after-passed.passed-b.ensures start.requires.1)))
+    (λ c κs. let r = applied-read t (search) in
+    both (omega (arith, c.requires.0, left_at))
+    (suffixes-ready-at c.raised.ensures (call-callee r (search) _ (search) c.passed-b.ensures c.requires.1)))
     (λ c κs. omega arith) (λ c. omega arith) (λ c. omega arith)
     -- returns-3
-    (λ c. let after-applied2 = c in let after-raised = after-applied2 in
-    let after-passed = after-raised in
-    call-gave (applied-read t (search)) (search) _ (search) after-passed.passed-b.ensures
-    (suffixes-gave-at after-raised.raised.ensures after-applied2.applied-c.ensures) c.put.ensures)
+    (λ c. call-gave (applied-read t (search)) (search) _ (search) c.passed-b.ensures
+    (suffixes-gave-at c.raised.ensures c.applied-c.ensures) c.put.ensures)
 
 abbrev args-cs : ℕ → cycle.Lts-args.Claims
 args-cs t =
@@ -74,31 +67,22 @@ args_ok t =
     (λ c κs. let height = (c.loop-at.invariant.2
     c.requires.1).height in omega arith)
     -- expr-requires
-    (λ c κs. let after-entry = c in let after-loop-test = after-entry in
-    let after-loop = after-loop-test in let start = after-loop in
-    both (omega (arith, start.requires.0, left_at))
-    (ready_at c.raised.ensures (args-part _ _ _ after-loop-test.loop-at-test.true after-entry.entry.ensures.0 refl start.requires.1
-    (after-loop.loop-at.invariant.2 start.requires.1))))
+    (λ c κs. both (omega (arith, c.requires.0, left_at))
+    (ready_at c.raised.ensures (args-part _ _ _ c.loop-at-test.true c.entry.ensures.0 refl c.requires.1
+    (c.loop-at.invariant.2 c.requires.1))))
     -- add-keep
-    (λ c. let after-loop = c in
-    let start = after-loop in
-    omega (arith, (after-loop.loop-at.invariant.2 start.requires.1).height, start.requires.1.ready.height))
+    (λ c. omega (arith, (c.loop-at.invariant.2 c.requires.1).height, c.requires.1.ready.height))
     -- keep-requires
-    (λ c κs. let after-loop = c in
-    let start = after-loop in
-    omega (arith, (after-loop.loop-at.invariant.2 start.requires.1).height, start.requires.1.ready.height))
+    (λ c κs. omega (arith, (c.loop-at.invariant.2 c.requires.1).height, c.requires.1.ready.height))
     -- add-k
-    (λ c. let after-loop = c in let start = after-loop in
-    omega (arith, (after-loop.loop-at.invariant.2 start.requires.1).height, start.requires.1.ready.height))
+    (λ c. omega (arith, (c.loop-at.invariant.2 c.requires.1).height, c.requires.1.ready.height))
     (λ c. omega arith)
     -- loop-again
-    (λ c. let after-expr = c in
-    let after-raised = after-expr in let after-entry = after-raised in
-    let after-loop-test = after-entry in let after-loop = after-loop-test in (
-      after-expr.expr-a.auto.s ∙ after-loop.loop-at.invariant.0,
-      c.keep-r.auto.text ∙ after-expr.expr-a.auto.text ∙ after-loop.loop-at.invariant.1,
-      λ y. args-next _ _ _ after-loop-test.loop-at-test.true after-entry.entry.ensures.0 refl
-          (gave_at _ after-raised.raised.ensures after-expr.expr-a.ensures) c.keep-r.ensures y (after-loop.loop-at.invariant.2 y),
+    (λ c. (
+      c.expr-a.auto.s ∙ c.loop-at.invariant.0,
+      c.keep-r.auto.text ∙ c.expr-a.auto.text ∙ c.loop-at.invariant.1,
+      λ y. args-next _ _ _ c.loop-at-test.true c.entry.ensures.0 refl
+          (gave_at _ c.raised.ensures c.expr-a.ensures) c.keep-r.ensures y (c.loop-at.invariant.2 y),
     ))
     (λ c. omega arith) (λ c. omega arith) (λ c. args_end _ _ _ c.loop-at-test.false c.loop-at.invariant.2)
 
@@ -118,6 +102,5 @@ passed-cs t = three (steps.reached.Reads.Asked, steps.reached.Reads.Learnt) (ste
 pub passed_ok : {M : Type 1} (t : ℕ) → cycle.Lts-passed.Closed (passed-cs t) (at passed t) (rank passed).post M
 passed_ok t = cycle.Lts-passed.spec (passed-cs t) (at passed t) (rank passed).post (λ c. omega arith) (λ c κs. omega arith) (λ c κs. omega arith)
     -- args-requires
-    (λ c κs. let after-reached = c in let start = after-reached in
-    both (omega (arith, left_at)) (args-ready-at c.raised.ensures (args-with (after-reached.reached-a.ensures.by []).label start.requires.1)))
+    (λ c κs. both (omega (arith, left_at)) (args-ready-at c.raised.ensures (args-with (c.reached-a.ensures.by []).label c.requires.1)))
     (λ c. omega arith) (λ c. omega arith) (λ c. search (passed-gave, args-gave-at))

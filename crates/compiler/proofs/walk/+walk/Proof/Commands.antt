@@ -11,7 +11,6 @@ use Rattle.compiler.proofs.Assigning.{assigned-part, assigned-gave}
 use Rattle.compiler.proofs.Guards.{when-if, when-unless}
 use Rattle.compiler.proofs.Commands.{result-part, result-gave}
 use Rattle.compiler.proofs.Expressions.{ready_at, left_at}
-use borrow.Fn.PlainCycle.{is}
 use cycle.Proof.Ranks.{rank, at, calls, both, three, eleven, assign, bare, block, command, expr, for-to, plain, repeated, switch, test, when}
 use cycle.Proof.Ranks.{while-do}
 
@@ -25,10 +24,8 @@ command-ok t = cycle.Lts-command.spec (command-cs t) (at command t) (rank comman
     (λ c κs. (labelled-labels _ c.node_at-n.ensures c.if-n-eq-LABELLED.true refl
     c.requires.1).small)
     -- bare-requires
-    (λ c κs. let after-if1 = c in let after-node-at = after-if1 in
-    let start = after-node-at in
-    both (omega (arith, start.requires.0)) (labelled-bare _ after-node-at.node_at-n.ensures after-if1.if-n-eq-LABELLED.true refl _
-    c.misplaced-a.ensures start.requires.1))
+    (λ c κs. both (omega (arith, c.requires.0)) (labelled-bare _ c.node_at-n.ensures c.if-n-eq-LABELLED.true refl _
+    c.misplaced-a.ensures c.requires.1))
     (λ c. omega arith) (λ c. omega arith) (λ c. search labelled-gave) (λ c κs. search needs) (λ c. omega arith) (λ c. omega arith)
     (λ c. search unlabelled-gave)
 
@@ -39,18 +36,13 @@ pub bare-ok : {M : Type 1} (t : ℕ) → cycle.Lts-bare.Closed (bare-cs t) (at b
 bare-ok t = cycle.Lts-bare.spec (bare-cs t) (at bare t) (rank bare).post (λ c κs. omega arith) (λ c. omega arith) (λ c. omega arith)
     (λ c. search bare-empty) (λ c κs. omega arith)
     -- repeated-requires
-    (λ c κs. let after-if2 = c in let after-if1 = after-if2 in
-    let after-node-at = after-if1 in let start = after-node-at in
-    both (omega (arith, start.requires.0, left_at, command-some))
-    (ready_at c.inside.ensures (labelled-rest _ after-node-at.node_at-n.ensures after-if1.if-n-eq-LABELLED.true refl after-if2.if-n.false
-    start.requires.1)))
+    (λ c κs. both (omega (arith, c.requires.0, left_at, command-some))
+    (ready_at c.inside.ensures (labelled-rest _ c.node_at-n.ensures c.if-n-eq-LABELLED.true refl c.if-n.false
+    c.requires.1)))
     (λ c. omega arith) (λ c. omega arith)
     -- returns-2
-    (λ c. let after-repeated = c in let after-inside = after-repeated in
-    let after-if2 = after-inside in let after-if1 = after-if2 in
-    let after-node-at = after-if1 in
-    bare-labelled _ after-node-at.node_at-n.ensures after-if1.if-n-eq-LABELLED.true refl after-if2.if-n.false _ _
-    (gave-r-at _ after-inside.inside.ensures refl after-repeated.repeated.ensures))
+    (λ c. bare-labelled _ c.node_at-n.ensures c.if-n-eq-LABELLED.true refl c.if-n.false _ _
+    (gave-r-at _ c.inside.ensures refl c.repeated.ensures))
     (λ c κs. omega arith)
     (λ c κs. both (omega (arith, c.requires.0, left_at, command-some))
     (search (ready_at, bare-part))) (λ c. omega arith) (λ c. omega arith) (λ c. search (bare-gave, gave-r-at))

@@ -28,12 +28,9 @@ expr-ok t = cycle.Lts-expr.spec (expr-cs t) (at expr t) (rank expr).post (λ c �
     (λ c κs. both (omega (arith, c.requires.0, left_at, some_left))
     (search (ready_at, dyadic-left)))
     -- chain-requires
-    (λ c κs. let after-expr2 = c in let after-inside2 = after-expr2 in
-    let after-match = after-inside2 in let after-node-at = after-match in
-    let start = after-node-at in
-    both (omega (arith, start.requires.0, left_at, some_left)) (chain-ready-at after-inside2.inside-deep.ensures
-    (dyadic-rest _ after-node-at.node_at-n.ensures after-match.in-131.is refl _
-    (gave_at _ after-inside2.inside-deep.ensures after-expr2.expr-a.ensures) start.requires.1)))
+    (λ c κs. both (omega (arith, c.requires.0, left_at, some_left)) (chain-ready-at c.inside-deep.ensures
+    (dyadic-rest _ c.node_at-n.ensures c.in-131.is refl _
+    (gave_at _ c.inside-deep.ensures c.expr-a.ensures) c.requires.1)))
     (λ c κs. omega arith) (λ c κs. omega arith) (λ c κs. omega arith)
     (λ c κs. both (let falls = c.requires.0 in
     omega (arith, left_at, some_left)) (search (ready_at, valof-part)))
@@ -47,20 +44,14 @@ expr-ok t = cycle.Lts-expr.spec (expr-cs t) (at expr t) (rank expr).post (λ c �
     (λ c. omega arith) (λ c. omega arith) (λ c. search name-gave) (λ c. omega arith) (λ c. omega arith) (λ c. search (bracket-gave, gave_at))
     (λ c. omega arith) (λ c. omega arith)
     -- returns-5
-    (λ c. let after-chain = c in
-    let after-expr2 = after-chain in
-    let after-inside2 = after-expr2 in let after-match = after-inside2 in
-    let after-node-at = after-match in
-    dyadic-gave _ after-node-at.node_at-n.ensures after-match.in-131.is refl _
-    (gave_at _ after-inside2.inside-deep.ensures after-expr2.expr-a.ensures)
-    (chain-gave-at after-inside2.inside-deep.ensures after-chain.chain.ensures))
+    (λ c. dyadic-gave _ c.node_at-n.ensures c.in-131.is refl _
+    (gave_at _ c.inside-deep.ensures c.expr-a.ensures)
+    (chain-gave-at c.inside-deep.ensures c.chain.ensures))
     (λ c. omega arith) (λ c. omega arith) (λ c. search (valof-gave, gave-c-at)) (λ c. omega arith) (λ c. omega arith)
     (λ c. search (monadic-gave, gave-monadic-at)) (λ c. omega arith) (λ c. omega arith)
     -- returns-8
-    (λ c. let after-applied = c in let after-inside5 = after-applied in
-    let after-match = after-inside5 in let after-node-at = after-match in
-    suffixed-gave _ after-node-at.node_at-n.ensures after-match.in_default.in_default-own.rest refl _
-    (suffixes-gave-at after-inside5.inside-in_default.ensures after-applied.applied.ensures))
+    (λ c. suffixed-gave _ c.node_at-n.ensures c.in_default.in_default-own.rest refl _
+    (suffixes-gave-at c.inside-in_default.ensures c.applied.ensures))
 
 abbrev chain-cs : ℕ → cycle.Lts-chain.Claims
 chain-cs t = six (proofs.scope.entry.Reads.Asked, proofs.scope.entry.Reads.Learnt) (steps.keep.Reads.Asked, steps.keep.Reads.Learnt)
@@ -77,28 +68,22 @@ chain-ok t =
     (λ c. search (needs, chain-begin)) (λ c κs. omega arith) (λ c. omega arith) (λ c κs. omega arith) (λ c. omega arith)
     (λ c. omega (arith, c.entry-size.ensures.1)) (λ c κs. omega arith) (λ c κs. omega arith)
     -- expr-requires
-    (λ c κs. let after-keep = c in let after-entry2 = after-keep in
-    let after-entry = after-entry2 in let after-loop-test = after-entry in let after-loop = after-loop-test in
-    let start = after-loop in
-    both (omega (arith, start.requires.0, left_at))
-    (ready_at c.raised.ensures (chain-part _ _ after-loop-test.loop-at-test.true after-entry.entry-size.ensures.0
-    after-entry2.entry-operator.ensures.0 refl after-keep.keep-a.ensures.label start.requires.1 (after-loop.loop-at.invariant.2 start.requires.1))))
+    (λ c κs. both (omega (arith, c.requires.0, left_at))
+    (ready_at c.raised.ensures (chain-part _ _ c.loop-at-test.true c.entry-size.ensures.0
+    c.entry-operator.ensures.0 refl c.keep-a.ensures.label c.requires.1 (c.loop-at.invariant.2 c.requires.1))))
     (λ c κs. omega arith)
     -- operate-requires
-    (λ c κs. let start = c in omega (arith, start.requires.1.ready.height))
+    (λ c κs. omega (arith, c.requires.1.ready.height))
     -- loop-less
-    (λ c. let after-loop-test = c in omega (arith, after-loop-test.loop-at-test.true))
+    (λ c. omega (arith, c.loop-at-test.true))
     -- loop-again
-    (λ c. let after-act-of = c in let after-expr = after-act-of in
-    let after-raised = after-expr in let after-keep = after-raised in
-    let after-entry2 = after-keep in let after-entry = after-entry2 in
-    let after-loop-test = after-entry in let after-loop = after-loop-test in (
-      after-expr.expr-b.auto.s ∙ after-loop.loop-at.invariant.0,
-      c.operate-r.auto.text ∙ after-expr.expr-b.auto.text ∙ after-keep.keep-a.auto.text ∙ after-loop.loop-at.invariant.1,
-      λ y. chain_next _ _ after-loop-test.loop-at-test.true
-          after-entry.entry-size.ensures.0 after-entry2.entry-operator.ensures.0 refl after-act-of.act_of.ensures after-keep.keep-a.ensures
-          (gave_at _ after-raised.raised.ensures after-expr.expr-b.ensures) c.operate-r.ensures y
-          (after-loop.loop-at.invariant.2 y),
+    (λ c. (
+      c.expr-b.auto.s ∙ c.loop-at.invariant.0,
+      c.operate-r.auto.text ∙ c.expr-b.auto.text ∙ c.keep-a.auto.text ∙ c.loop-at.invariant.1,
+      λ y. chain_next _ _ c.loop-at-test.true
+          c.entry-size.ensures.0 c.entry-operator.ensures.0 refl c.act_of.ensures c.keep-a.ensures
+          (gave_at _ c.raised.ensures c.expr-b.ensures) c.operate-r.ensures y
+          (c.loop-at.invariant.2 y),
     ))
     (λ c. omega arith) (λ c. omega arith) (λ c. search chain-end)
 

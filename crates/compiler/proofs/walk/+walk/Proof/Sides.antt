@@ -30,16 +30,12 @@ address-ok t = cycle.Lts-address.spec (address-cs t) (at address t) (rank addres
     c.args.place)
     (λ c. omega arith) (λ c. omega arith)
     -- returns-5
-    (λ c. let after-refuse = c in let after-if1 = after-refuse in
-    let after-match = after-if1 in let after-node-at = after-match in
-    address-refused _ _ _ after-node-at.node_at-n.ensures (omega (arith, after-match.in-128.is)) (λ e v. after-if1.if-n-eq-PLING.false v)
-    after-refuse.refuse.ensures)
+    (λ c. address-refused _ _ _ c.node_at-n.ensures (omega (arith, c.in-128.is)) (λ e v. c.if-n-eq-PLING.false v)
+    c.refuse.ensures)
     (λ c. omega arith) (λ c. omega arith)
     -- returns-6
-    (λ c. let after-refuse2 = c in let after-match = after-refuse2 in
-    let after-node-at = after-match in
-    address-refused _ _ _ after-node-at.node_at-n.ensures after-match.in_default.in_default-own.rest.0 (λ e v. after-match.in_default.in_default-own.rest.1 e)
-    after-refuse2.refuse-in_default.ensures)
+    (λ c. address-refused _ _ _ c.node_at-n.ensures c.in_default.in_default-own.rest.0 (λ e v. c.in_default.in_default-own.rest.1 e)
+    c.refuse-in_default.ensures)
 
 abbrev located-cs : ℕ → cycle.Lts-located.Claims
 located-cs t = nine (steps.node_at.Reads.Asked, steps.node_at.Reads.Learnt) (steps.minus.Reads.Asked, steps.minus.Reads.Learnt)
@@ -52,47 +48,28 @@ located-ok t =
     cycle.Lts-located.spec (located-cs t) (at located t) (rank located).post (λ c κs. omega arith) (λ c κs. omega arith) (λ c κs. omega arith)
     (λ c κs. omega arith) (λ c κs. omega arith) (λ c. omega arith)
     -- applied-requires
-    (λ c κs. let after-inside = c in let after-minus2 = after-inside in let after-entry = after-minus2 in
-    let after_minus = after-entry in let after-node-at = after_minus in
-    let start = after-node-at in
-    both (omega (arith, start.requires.0, left_at, some_left, start.requires.1.0.small)) (suffixes-ready-at after-inside.inside-deep.ensures
-    (address-left _ after-node-at.node_at-n.ensures start.requires.1.1 refl after_minus.minus-inner.ensures after-entry.entry.ensures.0
-    after-minus2.minus-start.ensures start.requires.1.0)))
+    (λ c κs. both (omega (arith, c.requires.0, left_at, some_left, c.requires.1.0.small)) (suffixes-ready-at c.inside-deep.ensures
+    (address-left _ c.node_at-n.ensures c.requires.1.1 refl c.minus-inner.ensures c.entry.ensures.0
+    c.minus-start.ensures c.requires.1.0)))
     -- keep-requires
-    (λ c κs. let start = c in omega (arith, start.requires.1.0.height))
+    (λ c κs. omega (arith, c.requires.1.0.height))
     -- raised-requires
-    (λ c κs. let after-inside = c in
-    let start = after-inside in
-    omega (arith, start.requires.1.0.height, ap (λ (x : Here). x.height) after-inside.inside-deep.ensures))
+    (λ c κs. omega (arith, c.requires.1.0.height, ap (λ (x : Here). x.height) c.inside-deep.ensures))
     -- expr-requires
-    (λ c κs. let after-keep = c in
-    let after-applied = after-keep in
-    let after-inside = after-applied in let after-minus2 = after-inside in
-    let after-entry = after-minus2 in let after_minus = after-entry in let after-node-at = after_minus in
-    let start = after-node-at in
-    both (omega (arith, start.requires.0, left_at, some_left)) (ready_at (c.raised.ensures ∙ ap (raised 1) after-inside.inside-deep.ensures)
-    (address-right _ after-node-at.node_at-n.ensures start.requires.1.1 refl after_minus.minus-inner.ensures after-entry.entry.ensures.0
-    after-minus2.minus-start.ensures _ (suffixes-gave-at after-inside.inside-deep.ensures after-applied.applied-a.ensures) after-keep.keep-b.ensures
-    start.requires.1.0)))
+    (λ c κs. both (omega (arith, c.requires.0, left_at, some_left)) (ready_at (c.raised.ensures ∙ ap (raised 1) c.inside-deep.ensures)
+    (address-right _ c.node_at-n.ensures c.requires.1.1 refl c.minus-inner.ensures c.entry.ensures.0
+    c.minus-start.ensures _ (suffixes-gave-at c.inside-deep.ensures c.applied-a.ensures) c.keep-b.ensures
+    c.requires.1.0)))
     (λ c κs. omega arith)
     -- same-length
     (λ c. c.expr-c.auto.s
     ∙ c.applied-a.auto.s)
     -- same-length-2
-    (λ c. let after-expr = c in
-    let after-keep = after-expr in
-    let after-applied = after-keep in
-    c.put.auto.text ∙ after-expr.expr-c.auto.text ∙ after-keep.keep-b.auto.text ∙ after-applied.applied-a.auto.text)
+    (λ c. c.put.auto.text ∙ c.expr-c.auto.text ∙ c.keep-b.auto.text ∙ c.applied-a.auto.text)
     -- returns
-    (λ c. let after-expr = c in let after-raised = after-expr in
-    let after-keep = after-raised in
-    let after-applied = after-keep in
-    let after-inside = after-applied in let after-minus2 = after-inside in
-    let after-entry = after-minus2 in let after_minus = after-entry in let after-node-at = after_minus in
-    let start = after-node-at in
-    address-index-gave _ after-node-at.node_at-n.ensures start.requires.1.1 refl after_minus.minus-inner.ensures after-entry.entry.ensures.0
-    after-minus2.minus-start.ensures _ (suffixes-gave-at after-inside.inside-deep.ensures after-applied.applied-a.ensures) after-keep.keep-b.ensures
-    (gave_at _ (after-raised.raised.ensures ∙ ap (raised 1) after-inside.inside-deep.ensures) after-expr.expr-c.ensures)
+    (λ c. address-index-gave _ c.node_at-n.ensures c.requires.1.1 refl c.minus-inner.ensures c.entry.ensures.0
+    c.minus-start.ensures _ (suffixes-gave-at c.inside-deep.ensures c.applied-a.ensures) c.keep-b.ensures
+    (gave_at _ (c.raised.ensures ∙ ap (raised 1) c.inside-deep.ensures) c.expr-c.ensures)
     c.put.ensures)
 
 abbrev refuse-cs : ℕ → cycle.Lts-refuse.Claims
@@ -111,28 +88,21 @@ side-cs t = eleven (steps.node_at.Reads.Asked, steps.node_at.Reads.Learnt) (step
 pub side-ok : {M : Type 1} (t : ℕ) → cycle.Lts-side.Closed (side-cs t) (at side t) (rank side).post M
 side-ok t = cycle.Lts-side.spec (side-cs t) (at side t) (rank side).post (λ c κs. omega arith) (λ c κs. omega arith)
     -- side-requires
-    (λ c κs. let after-match = c in let after-node-at = after-match in
-    let start = after-node-at in
-    both (omega (arith, left_at, some_left)) (both
-    (ready_at (ap (raised 1) c.inside.ensures) (bracket-part _ after-node-at.node_at-n.ensures after-match.in-51.is start.requires.1.0))
-    start.requires.1.1))
+    (λ c κs. both (omega (arith, left_at, some_left)) (both
+    (ready_at (ap (raised 1) c.inside.ensures) (bracket-part _ c.node_at-n.ensures c.in-51.is c.requires.1.0))
+    c.requires.1.1))
     (λ c κs. omega arith) (λ c κs. omega arith) (λ c κs. search needs) (λ c κs. omega arith) (λ c κs. omega arith)
     -- raised-requires
     (λ c κs. let height = c.requires.1.0.height in let same-height = ap (λ (x : Here). x.height) c.inside-then-n-eq-PLING.ensures in omega arith)
     -- expr-requires
-    (λ c κs. let after-keep = c in let after-match = after-keep in
-    let after-node-at = after-match in let start = after-node-at in
-    both (omega (arith, start.requires.0, left_at, some_left)) (ready_at (c.raised.ensures ∙ ap (raised 1) c.inside-then-n-eq-PLING.ensures)
-    (side-part [] 0 _ after-node-at.node_at-n.ensures after-match.in-128.is after-keep.keep-a.ensures start.requires.1.0)))
+    (λ c κs. both (omega (arith, c.requires.0, left_at, some_left)) (ready_at (c.raised.ensures ∙ ap (raised 1) c.inside-then-n-eq-PLING.ensures)
+    (side-part [] 0 _ c.node_at-n.ensures c.in-128.is c.keep-a.ensures c.requires.1.0)))
     -- store-through-requires
-    (λ c κs. let start = c in omega (arith, start.requires.1.0.height))
+    (λ c κs. omega (arith, c.requires.1.0.height))
     (λ c. omega arith) (λ c. omega arith)
     -- returns
-    (λ c. let after-expr = c in let after-raised = after-expr in
-    let after-inside2 = after-raised in let after-keep = after-inside2 in
-    let after-if1 = after-keep in let after-match = after-if1 in let after-node-at = after-match in
-    side-pling _ _ _ after-node-at.node_at-n.ensures after-match.in-128.is after-keep.keep-a.ensures after-if1.if-n-eq-PLING.true
-    (gave_at _ (after-raised.raised.ensures ∙ ap (raised 1) after-inside2.inside-then-n-eq-PLING.ensures) after-expr.expr-b.ensures)
+    (λ c. side-pling _ _ _ c.node_at-n.ensures c.in-128.is c.keep-a.ensures c.if-n-eq-PLING.true
+    (gave_at _ (c.raised.ensures ∙ ap (raised 1) c.inside-then-n-eq-PLING.ensures) c.expr-b.ensures)
     c.store_through.ensures)
     (λ c κs. omega arith)
     (λ c κs. both (omega (arith, c.requires.0, left_at))
@@ -142,16 +112,12 @@ side-ok t = cycle.Lts-side.spec (side-cs t) (at side t) (rank side).post (λ c �
     c.args.place)
     (λ c. omega arith) (λ c. omega arith)
     -- returns-5
-    (λ c. let after-refuse = c in let after-raised2 = after-refuse in
-    let after-if1 = after-raised2 in let after-match = after-if1 in let after-node-at = after-match in
-    side-refused _ _ _ _ after-node-at.node_at-n.ensures (omega (arith, after-match.in-128.is)) (λ e v. after-if1.if-n-eq-PLING.false v)
-    (gave-refused-at after-raised2.raised-in-128.ensures after-refuse.refuse.ensures))
+    (λ c. side-refused _ _ _ _ c.node_at-n.ensures (omega (arith, c.in-128.is)) (λ e v. c.if-n-eq-PLING.false v)
+    (gave-refused-at c.raised-in-128.ensures c.refuse.ensures))
     (λ c. omega arith) (λ c. omega arith)
     -- returns-6
-    (λ c. let after-refuse2 = c in let after-raised3 = after-refuse2 in
-    let after-match = after-raised3 in let after-node-at = after-match in
-    side-refused _ _ _ _ after-node-at.node_at-n.ensures after-match.in_default.in_default-own.rest.0 (λ e v. after-match.in_default.in_default-own.rest.1 e)
-    (gave-refused-at after-raised3.raised-in_default.ensures after-refuse2.refuse-in_default.ensures))
+    (λ c. side-refused _ _ _ _ c.node_at-n.ensures c.in_default.in_default-own.rest.0 (λ e v. c.in_default.in_default-own.rest.1 e)
+    (gave-refused-at c.raised-in_default.ensures c.refuse-in_default.ensures))
 
 abbrev stored-cs : ℕ → cycle.Lts-stored.Claims
 stored-cs t = nine (steps.node_at.Reads.Asked, steps.node_at.Reads.Learnt) (steps.minus.Reads.Asked, steps.minus.Reads.Learnt)
@@ -165,68 +131,43 @@ stored_ok t = cycle.Lts-stored.spec (stored-cs t) (at stored t) (rank stored).po
     (λ c κs. let height = c.requires.1.0.height in
     let same-height = ap (λ (x : Here). x.height) c.inside.ensures in omega arith) (λ c κs. omega arith)
     -- add-applied
-    (λ c. let after-node-at = c in
-    let start = after-node-at in
-    omega (arith, after-node-at.node_at-n.ensures.value_fits, after-node-at.node_at-n.ensures.start, start.requires.1.0.small))
+    (λ c. omega (arith, c.node_at-n.ensures.value_fits, c.node_at-n.ensures.start, c.requires.1.0.small))
     -- applied-requires
-    (λ c κs. let after-keep = c in let after-raised = after-keep in
-    let after-inside = after-raised in let after-minus2 = after-inside in let after-entry = after-minus2 in
-    let after_minus = after-entry in let after-node-at = after_minus in
-    let start = after-node-at in
-    both (let falls = start.requires.0 in let left = left_at after-raised.raised-up.ensures in let left2 = left_at after-inside.inside.ensures in
-    let some = some_left start.requires.1.0 in let small = start.requires.1.0.small in let inner = after-node-at.node_at-n.ensures.inner in
-    let minus_is = after_minus.minus-inner.ensures in let minus2-is = after-minus2.minus-start.ensures in
-    omega arith) (suffixes-ready-at (after-raised.raised-up.ensures ∙ ap (raised 1) after-inside.inside.ensures)
-    (side_left _ after-node-at.node_at-n.ensures start.requires.1.1 refl after_minus.minus-inner.ensures after-entry.entry.ensures.0
-    after-minus2.minus-start.ensures [] after-keep.keep-a.ensures start.requires.1.0)))
+    (λ c κs. both (let falls = c.requires.0 in let left = left_at c.raised-up.ensures in let left2 = left_at c.inside.ensures in
+    let some = some_left c.requires.1.0 in let small = c.requires.1.0.small in let inner = c.node_at-n.ensures.inner in
+    let minus_is = c.minus-inner.ensures in let minus2-is = c.minus-start.ensures in
+    omega arith) (suffixes-ready-at (c.raised-up.ensures ∙ ap (raised 1) c.inside.ensures)
+    (side_left _ c.node_at-n.ensures c.requires.1.1 refl c.minus-inner.ensures c.entry.ensures.0
+    c.minus-start.ensures [] c.keep-a.ensures c.requires.1.0)))
     -- add-keep
-    (λ c. let start = c in omega (arith, start.requires.1.0.height))
+    (λ c. omega (arith, c.requires.1.0.height))
     -- keep-requires-2
-    (λ c κs. let start = c in omega (arith, start.requires.1.0.height))
+    (λ c κs. omega (arith, c.requires.1.0.height))
     -- raised-requires-2
-    (λ c κs. let after-raised = c in let after-inside = after-raised in
-    let start = after-inside in
-    let height = start.requires.1.0.height in let same-height = ap (λ (x : Here). x.height) after-raised.raised-up.ensures in
-    let same-height2 = ap (λ (x : Here). x.height) after-inside.inside.ensures in omega arith)
+    (λ c κs. let height = c.requires.1.0.height in let same-height = ap (λ (x : Here). x.height) c.raised-up.ensures in
+    let same-height2 = ap (λ (x : Here). x.height) c.inside.ensures in omega arith)
     -- expr-requires
-    (λ c κs. let after-keep2 = c in
-    let after-applied = after-keep2 in
-    let after-keep = after-applied in let after-raised = after-keep in
-    let after-inside = after-raised in let after-minus2 = after-inside in let after-entry = after-minus2 in
-    let after_minus = after-entry in let after-node-at = after_minus in
-    let start = after-node-at in
-    both (let falls = start.requires.0 in let left = left_at c.raised.ensures in let left2 = left_at after-raised.raised-up.ensures in
-    let left3 = left_at after-inside.inside.ensures in let some = some_left start.requires.1.0 in
-    omega arith) (ready_at (c.raised.ensures ∙ ap (raised 1) (after-raised.raised-up.ensures ∙ ap (raised 1) after-inside.inside.ensures))
-    (side_right _ after-node-at.node_at-n.ensures start.requires.1.1 refl after_minus.minus-inner.ensures after-entry.entry.ensures.0
-    after-minus2.minus-start.ensures _ after-keep.keep-a.ensures
-    (suffixes-gave-at (after-raised.raised-up.ensures ∙ ap (raised 1) after-inside.inside.ensures) after-applied.applied-b.ensures)
-    after-keep2.keep-c.ensures start.requires.1.0)))
+    (λ c κs. both (let falls = c.requires.0 in let left = left_at c.raised.ensures in let left2 = left_at c.raised-up.ensures in
+    let left3 = left_at c.inside.ensures in let some = some_left c.requires.1.0 in
+    omega arith) (ready_at (c.raised.ensures ∙ ap (raised 1) (c.raised-up.ensures ∙ ap (raised 1) c.inside.ensures))
+    (side_right _ c.node_at-n.ensures c.requires.1.1 refl c.minus-inner.ensures c.entry.ensures.0
+    c.minus-start.ensures _ c.keep-a.ensures
+    (suffixes-gave-at (c.raised-up.ensures ∙ ap (raised 1) c.inside.ensures) c.applied-b.ensures)
+    c.keep-c.ensures c.requires.1.0)))
     -- store-indexed-requires
-    (λ c κs. let start = c in omega (arith, start.requires.1.0.height))
+    (λ c κs. omega (arith, c.requires.1.0.height))
     -- same-length
     (λ c. c.expr-d.auto.s
     ∙ c.applied-b.auto.s)
     -- same-length-2
-    (λ c. let after-expr = c in
-    let after-keep2 = after-expr in
-    let after-applied = after-keep2 in
-    let after-keep = after-applied in
-    c.store_indexed.auto.text ∙ after-expr.expr-d.auto.text ∙ after-keep2.keep-c.auto.text
-    ∙ after-applied.applied-b.auto.text ∙ after-keep.keep-a.auto.text)
+    (λ c. c.store_indexed.auto.text ∙ c.expr-d.auto.text ∙ c.keep-c.auto.text
+    ∙ c.applied-b.auto.text ∙ c.keep-a.auto.text)
     -- returns
-    (λ c. let after-expr = c in let after-raised2 = after-expr in
-    let after-keep2 = after-raised2 in
-    let after-applied = after-keep2 in
-    let after-keep = after-applied in let after-raised = after-keep in
-    let after-inside = after-raised in let after-minus2 = after-inside in let after-entry = after-minus2 in
-    let after_minus = after-entry in let after-node-at = after_minus in
-    let start = after-node-at in
-    side-index-gave _ after-node-at.node_at-n.ensures start.requires.1.1 refl after_minus.minus-inner.ensures after-entry.entry.ensures.0
-    after-minus2.minus-start.ensures _ after-keep.keep-a.ensures
-    (suffixes-gave-at (after-raised.raised-up.ensures ∙ ap (raised 1) after-inside.inside.ensures) after-applied.applied-b.ensures)
-    after-keep2.keep-c.ensures (gave_at _ (after-raised2.raised.ensures
-    ∙ ap (raised 1) (after-raised.raised-up.ensures ∙ ap (raised 1) after-inside.inside.ensures)) after-expr.expr-d.ensures)
+    (λ c. side-index-gave _ c.node_at-n.ensures c.requires.1.1 refl c.minus-inner.ensures c.entry.ensures.0
+    c.minus-start.ensures _ c.keep-a.ensures
+    (suffixes-gave-at (c.raised-up.ensures ∙ ap (raised 1) c.inside.ensures) c.applied-b.ensures)
+    c.keep-c.ensures (gave_at _ (c.raised.ensures
+    ∙ ap (raised 1) (c.raised-up.ensures ∙ ap (raised 1) c.inside.ensures)) c.expr-d.ensures)
     c.store_indexed.ensures)
 
 abbrev assign-cs : ℕ → cycle.Lts-assign.Claims
@@ -251,28 +192,21 @@ pub assign-ok : {M : Type 1} (t : ℕ) → cycle.Lts-assign.Closed (assign-cs t)
 assign-ok t = cycle.Lts-assign.spec (assign-cs t) (at assign t) (rank assign).post assign-Inv-loop assign-μ-loop (λ c. search (needs, assign-begin))
     (λ c. omega arith) (λ c κs. omega arith) (λ c. omega (arith, c.entry.ensures.1))
     -- expr-requires
-    (λ c κs. let after-loop-test = c in let after-loop = after-loop-test in
-    let start = after-loop in
-    both (omega arith) (assign-right _ _ after-loop-test.loop-at-test.true c.entry.ensures.0 refl start.requires.1
-    (after-loop.loop-at.invariant.2 start.requires.1)))
+    (λ c κs. both (omega arith) (assign-right _ _ c.loop-at-test.true c.entry.ensures.0 refl c.requires.1
+    (c.loop-at.invariant.2 c.requires.1)))
     (λ c κs. omega arith)
     -- side-requires
-    (λ c κs. let after-expr = c in
-    let after-entry = after-expr in let after-loop-test = after-entry in
-    let after-loop = after-loop-test in let start = after-loop in
-    both (omega (arith, start.requires.0)) (both
-    (assign-left _ _ after-loop-test.loop-at-test.true after-entry.entry.ensures.0 refl after-expr.expr-a.ensures start.requires.1
-    (after-loop.loop-at.invariant.2 start.requires.1)) c.node_at-n.ensures.place_fits))
+    (λ c κs. both (omega (arith, c.requires.0)) (both
+    (assign-left _ _ c.loop-at-test.true c.entry.ensures.0 refl c.expr-a.ensures c.requires.1
+    (c.loop-at.invariant.2 c.requires.1)) c.node_at-n.ensures.place_fits))
     (λ c. omega (arith, assign-low t (search))) (λ c κs. omega arith) (λ c. omega (arith, assign-low t (search)))
     -- loop-less
-    (λ c. let after-loop-test = c in omega (arith, after-loop-test.loop-at-test.true))
+    (λ c. omega (arith, c.loop-at-test.true))
     -- loop-again
-    (λ c. let after-side = c in let after-node-at = after-side in
-    let after-expr = after-node-at in let after-entry = after-expr in
-    let after-loop-test = after-entry in let after-loop = after-loop-test in (
+    (λ c. (
       omega arith,
       omega arith,
-      λ y. assign-next _ _ after-loop-test.loop-at-test.true after-entry.entry.ensures.0 refl after-expr.expr-a.ensures _
-          after-node-at.node_at-n.ensures after-side.side-r.ensures c.entry-in-loop-at.ensures.0 refl y (after-loop.loop-at.invariant.2 y),
+      λ y. assign-next _ _ c.loop-at-test.true c.entry.ensures.0 refl c.expr-a.ensures _
+          c.node_at-n.ensures c.side-r.ensures c.entry-in-loop-at.ensures.0 refl y (c.loop-at.invariant.2 y),
     ))
     (λ c. omega arith) (λ c. omega arith) (λ c. assign_end _ _ c.loop-at-test.false c.loop-at.invariant.2)
