@@ -1,14 +1,16 @@
 // A further budget, asked for at the terminal, whatever standard input is.
 use crate::given::{Budget, budget_of};
-use crate::say;
+use crate::system;
+use crate::system::{EprintBytes, say};
+use std::io::Read;
+use std::rt::Files;
 
 // The budget in one line from the terminal: 0 for an empty line, or none.
-fn read_answer(terminal: i32) -> Budget {
-    let mut line = io::buffer();
-    let got = libc::read(terminal, &mut line);
-    let n = io::count(got, &line);
+fn read_answer(rt: &impl EprintBytes, terminal: &mut impl Read) -> Budget {
+    let mut line = system::buffer();
+    let n = terminal.read(&mut line).unwrap_or(0);
     if n == 0 {
-        say(b"\n");
+        say(rt, b"\n");
         return Budget::Is(0);
     }
     if line[n - 1] != 10 {
@@ -21,16 +23,19 @@ fn read_answer(terminal: i32) -> Budget {
 }
 
 // Asks until the answer is a number, three times at most.
-fn answer(program: &[u8], terminal: i32) -> u64 {
+fn answer(rt: &impl EprintBytes, program: &[u8], terminal: &mut impl Read) -> u64 {
     let mut tries: u64 = 3;
     while tries > 0 {
-        say(program);
-        say(b": how many instructions more? (Enter alone ends the run) ");
-        match read_answer(terminal) {
+        say(rt, program);
+        say(
+            rt,
+            b": how many instructions more? (Enter alone ends the run) ",
+        );
+        match read_answer(rt, terminal) {
             Budget::Is(m) => {
                 return m;
             }
-            Budget::Not => say(b"That is no number of instructions.\n"),
+            Budget::Not => say(rt, b"That is no number of instructions.\n"),
         }
         tries -= 1;
     }
@@ -38,14 +43,13 @@ fn answer(program: &[u8], terminal: i32) -> u64 {
 }
 
 // How many instructions more the user wants; 0 for none.
-pub fn further_budget(program: &[u8]) -> u64 {
-    let terminal = os::open_read(b"/dev/tty");
-    if terminal < 0 {
-        say(program);
-        say(b": there is no terminal to ask for a further BUDGET.\n");
-        return 0;
+pub fn further_budget(rt: &(impl Files + EprintBytes), program: &[u8]) -> u64 {
+    match system::open(rt, b"/dev/tty") {
+        Ok(mut terminal) => answer(rt, program, &mut terminal),
+        Err(_) => {
+            say(rt, program);
+            say(rt, b": there is no terminal to ask for a further BUDGET.\n");
+            0
+        }
     }
-    let m = answer(program, terminal);
-    libc::close(terminal);
-    m
 }

@@ -1,5 +1,5 @@
 // A line of a text, with a caret under a place of it.
-use crate::say;
+use crate::system::{EprintBytes, say};
 
 // So many bytes of a line are shown at most, and so many of them before the caret.
 const SHOWN: usize = 96;
@@ -85,7 +85,7 @@ fn in_row(c: u8, under: bool) -> u8 {
 }
 
 // The bytes from one place to another, or what stands under them; no more than are shown.
-fn show_row(source: &[u8], from: usize, end: usize, under: bool) {
+fn show_row(rt: &impl EprintBytes, source: &[u8], from: usize, end: usize, under: bool) {
     let mut row = [0u8; 96];
     let mut n: usize = 0;
     let mut i = from;
@@ -100,7 +100,7 @@ fn show_row(source: &[u8], from: usize, end: usize, under: bool) {
         n += 1;
         i += 1;
     }
-    say(&row[..n]);
+    say(rt, &row[..n]);
 }
 
 // Whether some byte is shown as another.
@@ -119,37 +119,37 @@ fn disguised(source: &[u8], from: usize, end: usize) -> bool {
 }
 
 // The caret's line. `cut` says whether dots stand before what is shown above.
-fn show_caret(source: &[u8], from: usize, at: usize, cut: bool) {
-    say(b"    ");
+fn show_caret(rt: &impl EprintBytes, source: &[u8], from: usize, at: usize, cut: bool) {
+    say(rt, b"    ");
     if cut {
-        say(b"   ");
+        say(rt, b"   ");
     }
-    show_row(source, from, at, true);
-    say(b"^");
+    show_row(rt, source, from, at, true);
+    say(rt, b"^");
     if at == source.len() {
-        say(b" the text ends here");
+        say(rt, b" the text ends here");
     }
-    say(b"\n");
+    say(rt, b"\n");
 }
 
-pub fn show_line(source: &[u8], place: usize) {
+pub fn show_line(rt: &impl EprintBytes, source: &[u8], place: usize) {
     let at = least(place, source.len());
     let before = distance(1, column_of(source, at));
     let cut = before > BEFORE;
     let from = distance(least(before, BEFORE), at);
     let end = line_end(source, at);
     let last = shown_end(from, end);
-    say(b"    ");
+    say(rt, b"    ");
     if cut {
-        say(b"...");
+        say(rt, b"...");
     }
-    show_row(source, from, last, false);
+    show_row(rt, source, from, last, false);
     if last < end {
-        say(b"...");
+        say(rt, b"...");
     }
-    say(b"\n");
-    show_caret(source, from, at, cut);
+    say(rt, b"\n");
+    show_caret(rt, source, from, at, cut);
     if disguised(source, from, last) {
-        say(b"(A byte that cannot be shown is shown as ? above.)\n");
+        say(rt, b"(A byte that cannot be shown is shown as ? above.)\n");
     }
 }

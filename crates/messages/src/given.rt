@@ -2,8 +2,10 @@
 ghost use Rattle.std.specs.Prelude.{◌≡◌, length};
 ghost use Rattle.messages.specs.Fits.{Fits};
 
-use crate::say;
-use libc::STDIN_FILENO;
+use crate::system;
+use crate::system::{EprintBytes, fail, read_full, say};
+use std::io::{Error, IsTerminal, Read};
+use std::rt::Files;
 
 // A budget as it is written: decimal digits, and no more than a u64 holds.
 #[derive(Drop)]
@@ -58,62 +60,78 @@ pub fn budget_of(digits: &[u8]) -> Budget {
 }
 
 // What the system says of a file or an input that cannot be read.
-fn say_unreadable(program: &[u8], name: &[u8]) {
-    say(program);
-    say(b": cannot read ");
-    os::fail(name);
+fn say_unreadable(rt: &impl EprintBytes, program: &[u8], name: &[u8], error: &Error) {
+    say(rt, program);
+    say(rt, b": cannot read ");
+    fail(rt, name, error);
 }
 
-fn say_too_long(program: &[u8], name: &[u8]) {
-    say(program);
-    say(b": ");
-    say(name);
-    say(b" is longer than 1048576 bytes; nothing was run.\n");
+fn say_too_long(rt: &impl EprintBytes, program: &[u8], name: &[u8]) {
+    say(rt, program);
+    say(rt, b": ");
+    say(rt, name);
+    say(rt, b" is longer than 1048576 bytes; nothing was run.\n");
 }
 
-fn load(program: &[u8], fd: i32, buffer: &mut [u8], name: &[u8]) -> Loaded
+fn load<R: Read + IsTerminal>(
+    rt: &impl EprintBytes,
+    program: &[u8],
+    reader: &mut R,
+    buffer: &mut [u8],
+    name: &[u8],
+) -> Loaded
     ensures { Fits result buffer.new }
 {
-    let n = io::read_full(fd, buffer);
+    let n = read_full(reader, buffer);
     if n > MOST {
-        say_too_long(program, name);
+        say_too_long(rt, program, name);
         return Loaded::Not;
     }
     // A further read tells an end from a failure; at a terminal it would wait for a further line.
-    if libc::isatty(fd) == 1 {
+    if reader.is_terminal() {
         return Loaded::Is(n);
     }
     let mut more = [0u8; 1];
-    if libc::read(fd, &mut more) < 0 {
-        say_unreadable(program, name);
+    if let Err(e) = reader.read(&mut more) {
+        say_unreadable(rt, program, name, &e);
         return Loaded::Not;
     }
     Loaded::Is(n)
 }
 
 // A file's bytes, into a buffer of `bytes`.
-pub fn load_file(program: &[u8], path: &[u8], buffer: &mut [u8]) -> Loaded
+pub fn load_file<R: Files + EprintBytes>(
+    rt: &R,
+    program: &[u8],
+    path: &[u8],
+    buffer: &mut [u8],
+) -> Loaded
+where
+    R::File: IsTerminal,
     ensures { Fits result buffer.new }
 {
-    let fd = os::open_read(path);
-    if fd < 0 {
-        say_unreadable(program, path);
-        return Loaded::Not;
+    match system::open(rt, path) {
+        Ok(mut file) => load(rt, program, &mut file, buffer, path),
+        Err(e) => {
+            say_unreadable(rt, program, path, &e);
+            Loaded::Not
+        }
     }
-    let loaded = load(program, fd, buffer, path);
-    libc::close(fd);
-    loaded
 }
 
 // Standard input's bytes. At a terminal nothing happens until the input is ended, so the user is told how.
-pub fn load_input(program: &[u8], buffer: &mut [u8]) -> Loaded
+pub fn load_input<R: Input + EprintBytes>(rt: &R, program: &[u8], buffer: &mut [u8]) -> Loaded
+where
+    R::Reader: IsTerminal,
     ensures { Fits result buffer.new }
 {
-    if libc::isatty(STDIN_FILENO) == 1 {
-        say(program);
+    let mut input = rt.reader();
+    if input.is_terminal() {
+        say(rt, program);
         say(
+            rt,
             b": type the program's input, if it reads any; Ctrl-D at the start of a line ends it.\n",
         );
     }
-    load(program, STDIN_FILENO, buffer, b"standard input")
+    load(rt, program, &mut input, buffer, b"standard input")
 }

@@ -1,48 +1,53 @@
 // The run of an image, its output written out as it comes, and carried on with a further budget where the user is to be asked.
 use crate::advice::say_stop_advice;
 use crate::asking::further_budget;
-use crate::{say, say_stop};
-use libc::STDOUT_FILENO;
+use crate::system::{EprintBytes, say};
+use crate::{say_stop, system};
 use machine::Ran;
+use std::rt::Files;
 
 // Writes the bytes of the output that a run filled.
-fn flush(output: &[u8], written: usize) -> bool {
+fn flush(rt: &impl Print, output: &[u8], written: usize) -> bool {
     if written <= output.len() {
-        return io::write_all(STDOUT_FILENO, &output[0..written]);
+        return rt.write_all(&output[0..written]).is_ok();
     }
     false
 }
 
 // The stop with which a run ends, if it did not finish.
-fn say_end(program: &[u8], stop: u16, ran: Ran) {
+fn say_end(rt: &impl EprintBytes, program: &[u8], stop: u16, ran: &Ran) {
     let r = ran.registers;
-    say_stop(program, stop, ran.count, r);
-    say_stop_advice(stop);
+    say_stop(rt, program, stop, ran.count, r);
+    say_stop_advice(rt, stop);
 }
 
 // Says a stop; how many instructions the run is to go on with, 0 for none.
-fn further(program: &[u8], ran: Ran, asks: bool) -> u64 {
+fn further(rt: &(impl Files + EprintBytes), program: &[u8], ran: &Ran, asks: bool) -> u64 {
     let stop = ran.stop;
     if stop == 31 {
         if asks {
             let r = ran.registers;
-            say_stop(program, stop, ran.count, r);
-            return further_budget(program);
+            say_stop(rt, program, stop, ran.count, r);
+            return further_budget(rt, program);
         }
     }
-    say_end(program, stop, ran);
+    say_end(rt, program, stop, ran);
     0
 }
 
-fn say_too_much(program: &[u8]) {
-    say(program);
-    say(b": all budgets together are to be at most 18446744073709551615.\n");
+fn say_too_much(rt: &impl EprintBytes, program: &[u8]) {
+    say(rt, program);
+    say(
+        rt,
+        b": all budgets together are to be at most 18446744073709551615.\n",
+    );
 }
 
 // Goes on with a run until it finishes or is to go on no more; whether it finished. At each stop the output is written out, and its room is
 // free again: a run stopped by 35 goes on with what is left of its budget, one stopped by 31, if the user is to be asked, with a further
 // budget. `first` is the first part, with that budget.
-pub fn carry_on(
+pub fn carry_on<R: Files + Print + EprintBytes>(
+    rt: &R,
     program: &[u8],
     first: Ran,
     memory: &mut [u16],
@@ -58,8 +63,8 @@ pub fn carry_on(
         let mut r = ran.registers;
         let stop = ran.stop;
         let count = ran.count;
-        if !flush(output, r.written) {
-            say_end(program, 35, ran);
+        if !flush(rt, output, r.written) {
+            say_end(rt, program, 35, &ran);
             return false;
         }
         if stop == 30 {
@@ -68,7 +73,7 @@ pub fn carry_on(
         let mut more = 0;
         if stop == 35 {
             if count <= before {
-                say_end(program, stop, ran);
+                say_end(rt, program, stop, &ran);
                 return false;
             }
             if count > allowed {
@@ -77,12 +82,12 @@ pub fn carry_on(
             before = count;
             more = allowed - count;
         } else {
-            more = further(program, ran, asks);
+            more = further(rt, program, &ran, asks);
             if more == 0 {
                 return false;
             }
             if more > 18446744073709551615 - allowed {
-                say_too_much(program);
+                say_too_much(rt, program);
                 return false;
             }
             allowed += more;
@@ -98,7 +103,8 @@ pub fn carry_on(
 }
 
 // Runs an image with its first stack word; whether it finished. Any stop but that is said.
-pub fn run_image(
+pub fn run_image<R: Files + Print + EprintBytes>(
+    rt: &R,
     program: &[u8],
     first: u16,
     memory: &mut [u16],
@@ -106,7 +112,7 @@ pub fn run_image(
     budget: u64,
     asks: bool,
 ) -> bool {
-    let mut output = io::large_buffer();
+    let mut output = system::large_buffer();
     let ran = machine::run(memory, first, input, &mut output, budget);
-    carry_on(program, ran, memory, input, &mut output, budget, asks)
+    carry_on(rt, program, ran, memory, input, &mut output, budget, asks)
 }
