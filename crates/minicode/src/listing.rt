@@ -9,58 +9,58 @@
 //
 // An accepted text fits the memory, so the tests of places and addresses here never fail; they stand in for its proof.
 use items::{Item, Next, Start};
-use libc::STDOUT_FILENO;
 
-fn put(bytes: &[u8]) {
-    io::write_all(STDOUT_FILENO, bytes);
+// What cannot be written is lost, and nothing comes of it.
+fn put(rt: &impl Print, bytes: &[u8]) {
+    let _ = rt.write_all(bytes);
 }
 
 // Blanks before a number, so that it ends in the fifth column.
-fn pad(n: u16) {
+fn pad(rt: &impl Print, n: u16) {
     match n {
-        0..=9 => put(b"    "),
-        10..=99 => put(b"   "),
-        100..=999 => put(b"  "),
-        1000..=9999 => put(b" "),
+        0..=9 => put(rt, b"    "),
+        10..=99 => put(rt, b"   "),
+        100..=999 => put(rt, b"  "),
+        1000..=9999 => put(rt, b" "),
         _ => {}
     }
 }
 
-fn put_number(n: u16) {
-    pad(n);
-    io::print_decimal(STDOUT_FILENO, n as u64);
+fn put_number(rt: &impl Print, n: u16) {
+    pad(rt, n);
+    let _ = rt.print(n);
 }
 
 // An address and the words from i on, two at most.
-fn put_words(address: u16, words: &[u16], i: usize) {
-    put_number(address);
+fn put_words(rt: &impl Print, address: u16, words: &[u16], i: usize) {
+    put_number(rt, address);
     if i < words.len() {
-        put(b"  ");
-        put_number(words[i]);
+        put(rt, b"  ");
+        put_number(rt, words[i]);
         if i + 1 < words.len() {
-            put(b"  ");
-            put_number(words[i + 1]);
+            put(rt, b"  ");
+            put_number(rt, words[i + 1]);
         }
     }
 }
 
 // Blanks where a line has fewer words than two.
-fn fill(words: usize) {
+fn fill(rt: &impl Print, words: usize) {
     match words {
-        0 => put(b"              "),
-        1 => put(b"       "),
+        0 => put(rt, b"              "),
+        1 => put(rt, b"       "),
         _ => {}
     }
 }
 
 // The lines of an item's words past the second.
-fn put_rest(address: u16, words: &[u16]) {
+fn put_rest(rt: &impl Print, address: u16, words: &[u16]) {
     let mut at = address;
     let mut i: usize = 2;
     while i < words.len() {
         at = words::sum(at, 2);
-        put_words(at, words, i);
-        put(b"\n");
+        put_words(rt, at, words, i);
+        put(rt, b"\n");
         if words.len() - i <= 2 {
             return;
         }
@@ -68,17 +68,17 @@ fn put_rest(address: u16, words: &[u16]) {
     }
 }
 
-fn put_lines(address: u16, words: &[u16], bytes: &[u8]) {
-    put_words(address, words, 0);
-    fill(words.len());
-    put(b"  ");
-    put(bytes);
-    put(b"\n");
-    put_rest(address, words);
+fn put_lines(rt: &impl Print, address: u16, words: &[u16], bytes: &[u8]) {
+    put_words(rt, address, words, 0);
+    fill(rt, words.len());
+    put(rt, b"  ");
+    put(rt, bytes);
+    put(rt, b"\n");
+    put_rest(rt, address, words);
 }
 
 // An item of so many words at an address of the memory.
-fn put_item(memory: &[u16], at: usize, count: usize, bytes: &[u8]) {
+fn put_item(rt: &impl Print, memory: &[u16], at: usize, count: usize, bytes: &[u8]) {
     if at > memory.len() {
         return;
     }
@@ -89,7 +89,7 @@ fn put_item(memory: &[u16], at: usize, count: usize, bytes: &[u8]) {
         return;
     }
     let end = at + count;
-    put_lines(at as u16, &memory[at..end], bytes);
+    put_lines(rt, at as u16, &memory[at..end], bytes);
 }
 
 fn word_at(memory: &[u16], at: usize) -> u16 {
@@ -153,14 +153,14 @@ fn sum(at: usize, count: usize) -> usize {
 }
 
 // Lists an item, which has the bytes, and gives the address past it.
-fn list_item(memory: &[u16], at: usize, item: Item, bytes: &[u8]) -> usize {
+fn list_item(rt: &impl Print, memory: &[u16], at: usize, item: Item, bytes: &[u8]) -> usize {
     let from = address_of(item, at);
     let count = count_of(item, word_at(memory, from));
-    put_item(memory, from, count, bytes);
+    put_item(rt, memory, from, count, bytes);
     past_item(item, at, count)
 }
 
-fn list_items(text: &[u8], from: usize, memory: &[u16]) {
+fn list_items(rt: &impl Print, text: &[u8], from: usize, memory: &[u16]) {
     let mut place = from;
     let mut at: usize = 416;
     loop {
@@ -170,7 +170,7 @@ fn list_items(text: &[u8], from: usize, memory: &[u16]) {
                 return;
             }
             Next::Whole => {
-                put_item(memory, at, 0, b"Z");
+                put_item(rt, memory, at, 0, b"Z");
                 return;
             }
             Next::One(first, item, past) => {
@@ -183,17 +183,17 @@ fn list_items(text: &[u8], from: usize, memory: &[u16]) {
                 if first < place {
                     return;
                 }
-                at = list_item(memory, at, item, &text[first..past]);
+                at = list_item(rt, memory, at, item, &text[first..past]);
                 place = past;
             }
         }
     }
 }
 
-pub fn list(text: &[u8], memory: &[u16]) {
+pub fn list(rt: &impl Print, text: &[u8], memory: &[u16]) {
     let start = items::start_in(text);
     match start {
         Start::Unreadable(_) => {}
-        Start::From(from) => list_items(text, from, memory),
+        Start::From(from) => list_items(rt, text, from, memory),
     }
 }
