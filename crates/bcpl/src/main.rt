@@ -6,12 +6,15 @@
 // for a further budget where the run stops for budget, and carries it on; with -S it prints the text instead. Standard output gets exactly
 // the run's bytes, the text, or a refusal's one line; whatever else is to be said goes to standard error (crate `messages`). What a run does
 // is `execution`'s to promise.
+#![tactic(auto)]
+
 ghost use Rattle.std.specs.Prelude.{◌≡◌, length};
 
 use compiler::Compiled;
 use execution::Executed;
-use libc::STDOUT_FILENO;
-use messages::{Budget, Loaded, say};
+use messages::{Budget, EprintBytes, Loaded, say};
+use std::io::IsTerminal;
+use std::rt::{Env, Files};
 
 // What is lent: the longest source's scratch and text, and the memory. Each `ensures` gives the length, which lending the array needs.
 fn scratch() -> [u32; 131136]
@@ -32,21 +35,32 @@ fn words() -> [u16; 32768]
     [0; 32768]
 }
 
-fn say_usage() {
+fn say_usage(rt: &impl EprintBytes) {
     say(
+        rt,
         b"usage: bcpl FILE [BUDGET] < input    runs a BCPL source, for BUDGET instructions at most\n",
     );
     say(
+        rt,
         b"       bcpl -c FILE [BUDGET]         the same, and asks for more when BUDGET is used up\n",
     );
-    say(b"       bcpl -S FILE                  prints the MINICODE text that is made of it\n");
+    say(
+        rt,
+        b"       bcpl -S FILE                  prints the MINICODE text that is made of it\n",
+    );
 }
 
-fn run(source: &[u8], input: &[u8], budget: u64, asks: bool) {
+fn run<R: EprintBytes + Files + Print>(
+    rt: &R,
+    source: &[u8],
+    input: &[u8],
+    budget: u64,
+    asks: bool,
+) {
     let mut scratch = scratch();
     let mut text = room();
     let mut memory = words();
-    let mut output = io::large_buffer();
+    let mut output = messages::large_buffer();
     match execution::execute(
         source,
         &mut scratch,
@@ -56,145 +70,189 @@ fn run(source: &[u8], input: &[u8], budget: u64, asks: bool) {
         &mut output,
         budget,
     ) {
-        Executed::Uncompiled(r) => messages::say_refusal(b"bcpl", source, r),
+        Executed::Uncompiled(r) => messages::say_refusal(rt, b"bcpl", source, r),
         Executed::Unassembled(r) => {
-            messages::say_refusal(b"bcpl", &text, r);
-            say(b"The place is in the MINICODE text, which is printed by: bcpl -S FILE\n");
+            messages::say_refusal(rt, b"bcpl", &text, r);
+            say(
+                rt,
+                b"The place is in the MINICODE text, which is printed by: bcpl -S FILE\n",
+            );
         }
         Executed::Ran(ran) => {
-            if !messages::carry_on(b"bcpl", ran, &mut memory, input, &mut output, budget, asks) {
-                say(b"What the machine runs is printed by: bcpl -S FILE\n");
+            if !messages::carry_on(
+                rt,
+                b"bcpl",
+                ran,
+                &mut memory,
+                input,
+                &mut output,
+                budget,
+                asks,
+            ) {
+                say(rt, b"What the machine runs is printed by: bcpl -S FILE\n");
             }
         }
     }
 }
 
 // Whether the source compiles, its refusal told: so that no input is asked for in vain.
-fn compiles(source: &[u8]) -> bool {
+fn compiles(rt: &(impl EprintBytes + Print), source: &[u8]) -> bool {
     let mut scratch = scratch();
     let mut text = room();
     match compiler::compile(source, &mut scratch, &mut text) {
         Compiled::Accepted(_) => true,
         Compiled::Refused(r) => {
-            messages::say_refusal(b"bcpl", source, r);
+            messages::say_refusal(rt, b"bcpl", source, r);
             false
         }
     }
 }
 
-fn run_with_input(source: &[u8], budget: u64, asks: bool) {
-    if !compiles(source) {
+fn run_with_input<R: EprintBytes + Files + Input + Print>(
+    rt: &R,
+    source: &[u8],
+    budget: u64,
+    asks: bool,
+)
+where
+    R::Reader: IsTerminal,
+{
+    if !compiles(rt, source) {
         return;
     }
     let mut input = messages::bytes();
-    let Loaded::Is(m) = messages::load_input(b"bcpl", &mut input) else {
+    let Loaded::Is(m) = messages::load_input(rt, b"bcpl", &mut input) else {
         return;
     };
-    run(source, &input[..m], budget, asks);
+    run(rt, source, &input[..m], budget, asks);
 }
 
 // A source has 16,384 bytes at most, and one that does not fit the buffer is refused as too long by what does.
-fn run_file(path: &[u8], budget: u64, asks: bool) {
-    let mut source = io::large_buffer();
-    let Loaded::Is(n) = messages::load_file(b"bcpl", path, &mut source) else {
+fn run_file<R: EprintBytes + Files + Input + Print>(rt: &R, path: &[u8], budget: u64, asks: bool)
+where
+    R::File: IsTerminal,
+    R::Reader: IsTerminal,
+{
+    let mut source = messages::large_buffer();
+    let Loaded::Is(n) = messages::load_file(rt, b"bcpl", path, &mut source) else {
         return;
     };
-    run_with_input(&source[..n], budget, asks);
+    run_with_input(rt, &source[..n], budget, asks);
 }
 
-fn print_text(source: &[u8]) {
+fn print_text(rt: &(impl EprintBytes + Print), source: &[u8]) {
     let mut scratch = scratch();
     let mut text = room();
     match compiler::compile(source, &mut scratch, &mut text) {
         Compiled::Accepted(n) => {
-            io::write_all(STDOUT_FILENO, &text[..n]);
+            let _ = rt.write_all(&text[..n]);
         }
-        Compiled::Refused(r) => messages::say_refusal(b"bcpl", source, r),
+        Compiled::Refused(r) => messages::say_refusal(rt, b"bcpl", source, r),
     }
 }
 
-fn print_file(path: &[u8]) {
-    let mut source = io::large_buffer();
-    let Loaded::Is(n) = messages::load_file(b"bcpl", path, &mut source) else {
+fn print_file<R: EprintBytes + Files + Print>(rt: &R, path: &[u8])
+where
+    R::File: IsTerminal,
+{
+    let mut source = messages::large_buffer();
+    let Loaded::Is(n) = messages::load_file(rt, b"bcpl", path, &mut source) else {
         return;
     };
-    print_text(&source[..n]);
+    print_text(rt, &source[..n]);
 }
 
-fn run_with_arguments(path: &[u8], count: usize) {
+fn run_with_arguments<R: Env + EprintBytes + Files + Input + Print>(
+    rt: &R,
+    path: &[u8],
+    count: usize,
+)
+where
+    R::File: IsTerminal,
+    R::Reader: IsTerminal,
+{
     if count > 3 {
-        say_usage();
+        say_usage(rt);
         return;
     }
-    let Budget::Is(budget) = messages::budget_argument(b"bcpl", 2, count) else {
+    let Budget::Is(budget) = messages::budget_argument(rt, b"bcpl", 2, count) else {
         return;
     };
-    run_file(path, budget, false);
+    run_file(rt, path, budget, false);
 }
 
-fn ask_with_arguments(count: usize) {
+fn ask_with_arguments<R: Env + EprintBytes + Files + Input + Print>(rt: &R, count: usize)
+where
+    R::File: IsTerminal,
+    R::Reader: IsTerminal,
+{
     if count < 3 {
-        say_usage();
+        say_usage(rt);
         return;
     }
     if count > 4 {
-        say_usage();
+        say_usage(rt);
         return;
     }
-    let Budget::Is(budget) = messages::budget_argument(b"bcpl", 3, count) else {
+    let Budget::Is(budget) = messages::budget_argument(rt, b"bcpl", 3, count) else {
         return;
     };
-    let mut path = io::buffer();
-    let n = os::arg(2, &mut path);
-    if os::errno() != 0 {
-        os::fail(b"bcpl: FILE");
+    let mut path = messages::buffer();
+    let Loaded::Is(n) = messages::file_argument(rt, b"bcpl", 2, &mut path) else {
         return;
-    }
-    run_file(&path[..n], budget, true);
+    };
+    run_file(rt, &path[..n], budget, true);
 }
 
-fn print_with_arguments(count: usize) {
+fn print_with_arguments<R: Env + EprintBytes + Files + Print>(rt: &R, count: usize)
+where
+    R::File: IsTerminal,
+{
     if count != 3 {
-        say_usage();
+        say_usage(rt);
         return;
     }
-    let mut path = io::buffer();
-    let n = os::arg(2, &mut path);
-    if os::errno() != 0 {
-        os::fail(b"bcpl: FILE");
+    let mut path = messages::buffer();
+    let Loaded::Is(n) = messages::file_argument(rt, b"bcpl", 2, &mut path) else {
         return;
-    }
-    print_file(&path[..n]);
+    };
+    print_file(rt, &path[..n]);
 }
 
-fn by_first_argument(first: &[u8], count: usize) {
+fn by_first_argument<R: Env + EprintBytes + Files + Input + Print>(
+    rt: &R,
+    first: &[u8],
+    count: usize,
+)
+where
+    R::File: IsTerminal,
+    R::Reader: IsTerminal,
+{
     if !messages::is_option(first) {
-        run_with_arguments(first, count);
+        run_with_arguments(rt, first, count);
         return;
     }
     if messages::asks_for(first, b'c') {
-        ask_with_arguments(count);
+        ask_with_arguments(rt, count);
         return;
     }
     if messages::asks_for(first, b'S') {
-        print_with_arguments(count);
+        print_with_arguments(rt, count);
         return;
     }
-    messages::say_unknown_option(b"bcpl", first);
-    say_usage();
+    messages::say_unknown_option(rt, b"bcpl", first);
+    say_usage(rt);
 }
 
-fn main() {
-    let count = os::arg_count();
+fn main(rt: HostRuntime) {
+    let count = messages::arg_count(&rt);
     if count < 2 {
-        say_usage();
+        say_usage(&rt);
         return;
     }
-    let mut first = io::buffer();
-    let n = os::arg(1, &mut first);
-    if os::errno() != 0 {
-        os::fail(b"bcpl: FILE");
+    let mut first = messages::buffer();
+    let Loaded::Is(n) = messages::file_argument(&rt, b"bcpl", 1, &mut first) else {
         return;
-    }
-    by_first_argument(&first[..n], count);
+    };
+    by_first_argument(&rt, &first[..n], count);
 }
