@@ -1,9 +1,0 @@
--- The part of the buffer that is lent was read.
-use Rattle.messages.proofs.Loads.{loaded, loaded-part}
-use Rattle.laws.proofs.Basics.{needs}
-use Rattle.bcpl.proofs.print_file.Tie as tie
-
-pub print_file_spec : {M : Type 1} → Rattle.bcpl.proofs.print_file.Statement.statement M
-print_file_spec = tie.close
-    (tie.spec (search needs) (search needs) (search needs) (search needs) (search needs) (search needs) (search needs) (λ c. search loaded)
-    (λ c. search loaded-part) (search needs) (search needs))
