@@ -3,7 +3,8 @@
 // Standard output gets a refusal's one line; all that is said to a reader goes to standard error. `causes` says what is wrong,
 // `advice` what to do, each by document 01's number; `excerpt` shows the line with a caret under the place; `given` takes what
 // the user gives: a budget, a file, standard input, and `arguments` how; `running` runs an image and writes its output out, and `asking` asks for a
-// further budget. No contract can say what is written, so most functions here have none: they are proved safe, and to end.
+// further budget. `system` is what std is asked for. No contract can say what is written, so most functions here have none: they are proved
+// safe, and to end.
 #![tactic(auto)]
 
 mod advice;
