@@ -1,8 +1,8 @@
 #!/usr/bin/env bash
 # Compares the proved library with the second program, which is written from the rules alone: hand-checked answers, the
 # manual's examples, and generated texts, images and sources, in every word, label, register, symbol, tree and byte.
-# The programs are those that `rt ci` proved, built and left in out/; where a file changed since, `rt run` does so. It makes no archive of
-# `testbed`, the exports: `rt lib` proves that crate once more for it, over what earlier checks kept.
+# The programs are those that `rt ci` proved, built and left in out/; where a file changed since, `rt run` does so. The archive of `testbed`,
+# the exports, is made by `rt lib`, which proves that crate once more, over what earlier checks kept: `rt ci` makes none.
 set -euo pipefail
 cd "$(dirname "$0")/.."
 mkdir -p target/tests
