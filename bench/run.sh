@@ -5,19 +5,21 @@
 # Assembler: the same on the texts with the most labels. Symbols: the same on names, reserved words and a program.
 set -euo pipefail
 cd "$(dirname "$0")/.."
-rt check minicode bcpl > /dev/null
+for program in minicode bcpl; do
+    (cd "crates/$program" && rt run < /dev/null > /dev/null)
+done
 mkdir -p target/bench
 gcc -O2 bench/plain.c -o target/bench/plain
 rustc -O --edition 2021 tests/second/second.rs -o target/bench/second
 cp bench/*.min target/bench
-target/bin/bcpl -S bench/fibonacci.b > target/bench/fibonacci.min
+crates/bcpl/out/bcpl -S bench/fibonacci.b > target/bench/fibonacci.min
 python3 - <<'PY'
 import statistics, subprocess, time
 print(f"{'image':<34}{'minicode s':>12}{'plain C s':>12}{'ratio':>8}")
 for name in ["mixed", "loop", "fibonacci"]:
     text, image = f"target/bench/{name}.min", f"target/bench/{name}.img"
     subprocess.run(["target/bench/second", "--image", text, image], check=True)
-    commands = {"minicode": ["target/bin/minicode", text], "plain": ["target/bench/plain", image]}
+    commands = {"minicode": ["crates/minicode/out/minicode", text], "plain": ["target/bench/plain", image]}
     wanted = open(f"bench/{name}.out", "rb").read()
     times = {"minicode": [], "plain": []}
     for _ in range(5):
@@ -30,10 +32,10 @@ for name in ["mixed", "loop", "fibonacci"]:
     ours, plain = statistics.median(times["minicode"]), statistics.median(times["plain"])
     print(f"{name:<34}{ours:>12.3f}{plain:>12.3f}{ours / plain:>8.2f}")
 PY
-rt staticlib testbed > /dev/null
-rustc -O --edition 2021 --cfg proved tests/second/compile_time.rs -L target/staticlib -l static=testbed -o target/bench/compile_time
+(cd crates/testbed && rt lib > /dev/null)
+rustc -O --edition 2021 --cfg proved tests/second/compile_time.rs -L crates/testbed/out -l static=testbed -o target/bench/compile_time
 target/bench/compile_time
-rustc -O --edition 2021 --cfg proved tests/second/assemble_time.rs -L target/staticlib -l static=testbed -o target/bench/assemble_time
+rustc -O --edition 2021 --cfg proved tests/second/assemble_time.rs -L crates/testbed/out -l static=testbed -o target/bench/assemble_time
 target/bench/assemble_time
-rustc -O --edition 2021 --cfg proved tests/second/symbols_time.rs -L target/staticlib -l static=testbed -o target/bench/symbols_time
+rustc -O --edition 2021 --cfg proved tests/second/symbols_time.rs -L crates/testbed/out -l static=testbed -o target/bench/symbols_time
 target/bench/symbols_time

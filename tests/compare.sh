@@ -1,17 +1,33 @@
 #!/usr/bin/env bash
 # Compares the proved library with the second program, which is written from the rules alone: hand-checked answers, the
 # manual's examples, and generated texts, images and sources, in every word, label, register, symbol, tree and byte.
-# What is proved already is not proved again, but for `testbed`, the exports: its archive is made by a check of its own.
+# The programs are those that `rt ci` proved, built and left in out/; where a file changed since, `rt run` does so. The archive of `testbed`,
+# the exports, is made by `rt lib`, which proves that crate once more, over what earlier checks kept: `rt ci` makes none.
 set -euo pipefail
 cd "$(dirname "$0")/.."
 mkdir -p target/tests
+
+quietly() { # NAME COMMAND..: what the command says is shown where it fails
+    "${@:2}" > "target/tests/$1.log" 2>&1 || { tail -n 40 "target/tests/$1.log"; exit 1; }
+}
+
+in_crate() ( # NAME COMMAND..
+    cd "crates/$1" && "${@:2}"
+)
+
+proved() { # NAME: sees to the program crates/NAME/out/NAME
+    local program=crates/$1/out/$1
+    if [ ! -x "$program" ] || [ -n "$(find crates/*/src crates/*/specs crates/*/proofs crates.txt -newer "$program" -print -quit)" ]; then
+        quietly "$1" in_crate "$1" rt run < /dev/null
+    fi
+}
 
 built() { # NAME SOURCE [WORDS]: a program of tests/second, as target/tests/NAME
     rustc -O --edition 2021 "${@:3}" "tests/second/$2" -o "target/tests/$1"
 }
 
 with_library() { # NAME SOURCE: the same, with the proved library
-    built "$1" "$2" --cfg proved -L target/staticlib -l static=testbed
+    built "$1" "$2" --cfg proved -L crates/testbed/out -l static=testbed
 }
 
 beside() { # NAME COMMAND: begins the command; what it says is shown by `ended NAME`
@@ -41,14 +57,15 @@ second_alone() {
 }
 
 commands() {
-    rt check minicode bcpl > target/tests/check.log 2>&1 || { tail -n 40 target/tests/check.log; exit 1; }
-    tests/run-examples.sh target/bin/minicode
-    tests/messages.sh target/bin/minicode
-    tests/run-examples.sh target/bin/bcpl tests/examples b
-    tests/run-examples.sh target/bin/bcpl examples b
-    tests/both-ways.sh target/bin/bcpl target/bin/minicode tests/examples examples
-    tests/manual.sh target/bin/bcpl target/bin/minicode docs/MANUAL.md docs/TUTORIAL.md
-    rt try bcpl > target/tests/try.log 2>&1 || { tail -n 40 target/tests/try.log; exit 1; }
+    proved minicode
+    proved bcpl
+    tests/run-examples.sh crates/minicode/out/minicode
+    tests/messages.sh crates/minicode/out/minicode
+    tests/run-examples.sh crates/bcpl/out/bcpl tests/examples b
+    tests/run-examples.sh crates/bcpl/out/bcpl examples b
+    tests/both-ways.sh crates/bcpl/out/bcpl crates/minicode/out/minicode tests/examples examples
+    tests/manual.sh crates/bcpl/out/bcpl crates/minicode/out/minicode docs/MANUAL.md docs/TUTORIAL.md
+    quietly try in_crate bcpl rt try -- data/commas.b < crates/bcpl/stdin
 }
 
 texts_and_sources() {
@@ -63,7 +80,7 @@ texts_and_sources() {
 declare -A begun
 beside alone second_alone
 commands
-rt staticlib testbed > target/tests/staticlib.log 2>&1 || { tail -n 40 target/tests/staticlib.log; exit 1; }
+quietly testbed in_crate testbed rt lib
 ended alone
 beside texts texts_and_sources
 with_library programs_compare_proved programs_compare.rs

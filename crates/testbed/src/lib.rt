@@ -1,4 +1,6 @@
 // The library's functions exported on numbers and slices, for the comparison with the second program (tests/).
+#![tactic(auto)]
+
 ghost use Rattle.std.specs.Prelude.{◌≡◌, length};
 ghost use Rattle.assembler.specs.Assemble.{assembled, numbers};
 ghost use Rattle.machine.specs.Run.{resume, run};

@@ -2,16 +2,14 @@ use Rattle.testbed.proofs.Answers.{tree-answered, tree-refused}
 use Rattle.laws.proofs.Basics.{needs}
 use Rattle.testbed.proofs.answer_tree.Tie as tie
 
-returns : tie.Need-returns
-returns c = tree-answered c.before.before.before.before.before.read-tree.ensures c.before.enum_told.given.1
+returns : tie.Need-returns-in-TooShort
+returns c = tree-answered c.read_tree-read.ensures c.in-TooShort.is
 
-returns-2 : tie.Need-returns-2
-returns-2 c = tree-answered c.before.before.before.before.before.before.read-tree.ensures c.before.before.read.given.1
+returns-2 : tie.Need-returns-in-Read
+returns-2 c = tree-answered c.read_tree-read.ensures c.in-Read.is
 
-returns-3 : tie.Need-returns-3
-returns-3 c =
-    tree-refused c.before.before.before.before.before.before.before.read-tree.ensures c.before.before.before.read2.given.1
-    c.before.Line-of.ensures
+returns-3 : tie.Need-returns-in-Refused
+returns-3 c = tree-refused c.read_tree-read.ensures c.in-Refused.is c.line_of-line.ensures
 
 pub answer_tree_spec : {M : Type 1} → Rattle.testbed.proofs.answer_tree.Statement.statement M
 answer_tree_spec = tie.close
