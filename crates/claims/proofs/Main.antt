@@ -27,7 +27,7 @@ use Rattle.execution.proofs.Following.{front}
 
 -- a call of `compile`
 module _ {source scratch scratch' text text' : List ℕ} {answer : Compiled} (call : Compiles source scratch scratch' text text' answer) where
-  -- ---- demands 1 and 2: it answers or refuses by document 01's rules, in their order (language's `refusalIn`), and leaves the buffers
+  -- ---- demands 1 and 2: it answers or refuses by document 01's rules, in their order (language's `refusal_in`), and leaves the buffers
   -- as it says
 
   pub refuses : (number place : ℕ) → decided source (length scratch) (length text) ≡ refused number place

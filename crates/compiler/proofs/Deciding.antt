@@ -100,7 +100,7 @@ decides source fs hs b worst tall start at room f h w t s e =
     (λ z. by-least source tall size room hs h (t z) _ last (λ _. by-start source b start at size room (s z) (e z))) ∙ same_answer source
     (unless_fits size room (least_or fs (least_or hs last)))
 
--- ---- `byKeys`, case by case
+-- ---- `by_keys`, case by case
 
 module _ (source : List ℕ) (worst tall start at room : ℕ) where
   pub by-worst : worst < NONE → by_key source worst ≡ by_keys source worst tall start at room

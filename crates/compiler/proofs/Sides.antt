@@ -48,7 +48,7 @@ place-closed (T.monadic p o e) = refl
 place-closed (T.suffixed e ss) = refl
 place-closed (T.dyadic e os) = refl
 
--- ---- resolvedMonadic operators
+-- ---- monadic operators
 
 pub record IsMonadic (s : List ℕ) (lo end : ℕ) (e : Expression) : Type 0 where
   pub place : ℕ

@@ -212,7 +212,7 @@ strings-then l [] b = rw (add-zero l)
 strings-then l (c ∷ a) b = let z : suc l + length a ≡ l + suc (length a) = omega arith in
     ap (λ (is : List I.Item). I.label l ∷ I.string c ∷ is) (strings-then (suc l) a b ∙ rw z)
 
--- the strings of one symbol, as many as oneIf says
+-- the strings of one symbol, as many as `one_if` says
 unfoldable of_symbol : (source : List ℕ) (kind place : ℕ) → List (List ℕ)
 of_symbol source kind place = cond (eqb kind STRING) (characters_of (quoted 34 255 0 (drop (suc place) source)) ∷ []) []
 

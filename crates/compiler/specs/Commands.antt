@@ -125,7 +125,7 @@ pub record StoreTo (m name place : ℕ) (t t' : List ℕ) (st st' : State) : Typ
   pub by : (x : Here) (f : N.Found) → m ≡ found f
       → Did (N.on_found f (fault name 8) [] ++ unless_side place (side_of (of_meaning f))) (target_says x (target_of (side_of (of_meaning f)))) 0 t t' st st'
 
--- an operand with a resolvedMonadic operator before it
+-- an operand with a monadic operator before it
 abbrev pub GaveMonadic : (text s s' : List ℕ) → (operator end : ℕ) → Here → (t t' : List ℕ) → (st st' : State) → Type 0
 GaveMonadic text s s' o end x t t' st st' =
     Gave encode depth FineE

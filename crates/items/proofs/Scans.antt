@@ -1,4 +1,4 @@
--- A scan of a whole text is the items that `nextIn` gives one after another, from where `start_in` says that they begin.
+-- A scan of a whole text is the items that `next_in` gives one after another, from where `start_in` says that they begin.
 use Rattle.laws.proofs.Basics.{ℕ, zero, suc, ◌+◌, ◌-◌, ◌≤◌, ◌≡◌, refl, ap, ◌∙◌, List, [], ◌∷◌, Bool, true, false, not, cond, length, drop, drop-drop}
 use Rattle.laws.proofs.Basics.{eqb, add-zero, arith, add-shift}
 use Rattle.laws.proofs.Cases.{by_cases, by_cond}

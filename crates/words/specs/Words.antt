@@ -33,7 +33,7 @@ mul x y = word (x * y)
 abbrev pub complement : ℕ → ℕ
 complement x = 65535 - x
 
--- quotients cut toward zero, and the remainder takes the dividend's sign: the library's `quot_z` and `rem_z` are these
+-- quotients cut toward zero, and the remainder takes the dividend's sign: the library's `int_div` and `int_rem` are these
 unfoldable pub quot : ℕ → ℕ → ℕ
 quot x y = word_of (int_div (value x) (value y))
 
