@@ -1,6 +1,8 @@
 -- The index of the labels: what its entries say, what a new one adds, and that it serves for the records in both passes.
-use Rattle.laws.proofs.Basics.{ℕ, zero, suc, ◌+◌, ◌<◌, ◌≡◌, refl, sym, ap, ◌∙◌, List, [], ◌∷◌, ◌++◌, true, false, cond, length, get_or, set, replicate}
-use Rattle.laws.proofs.Basics.{length-append, length-set, length-replicate, get_or-set_same, get_or-set_other, eqb, add-zero, arith, eqb-true, eqb-false}
+use Rattle.laws.proofs.Basics.{ℕ, zero, suc, ◌+◌, ◌<◌, ◌≡◌, refl, sym, ap, ◌∙◌, List, [], ◌∷◌, ◌++◌, true, false, cond, length, get_or, set}
+use Rattle.laws.proofs.Basics.{replicate}
+use Rattle.laws.proofs.Basics.{length-append, length-set, length-replicate, get_or-set_same, get_or-set_other, eqb, add-zero, arith, eqb-true}
+use Rattle.laws.proofs.Basics.{eqb-false}
 use Rattle.laws.proofs.Basics.{eq-eqb, ne_eqb, add-shift}
 use Rattle.laws.proofs.Cases.{by_cases, by_equal, contradiction}
 use Rattle.items.specs.Item as I

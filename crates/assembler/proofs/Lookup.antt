@@ -71,3 +71,7 @@ pub looked-in-labels : (labels : List Label) (more n : ℕ) → (n ≡ 0 → ⊥
 unfolding looked_up defined address_of as_found
 looked-in-labels [] more n h = none-vacant more n h
 looked-in-labels (l ∷ ls) more n h = by_cases (eqb l.number n) (λ e. simp (e, ne_eqb n 0 h)) (λ e. simp e (looked-in-labels ls more n h))
+
+-- the records from the first on are all records
+pub looked-none : (labels : List Label) (n : ℕ) → looked_up labels n ≡ looked_up (drop 0 labels) n
+looked-none labels n = refl

@@ -9,7 +9,8 @@ use Rattle.machine.specs.Run.{steps, resume, run}
 use Rattle.text.specs.Written.{bytes}
 use Rattle.text.specs.Quoted.{quoted, character, by_digits, by_number, escape}
 use Rattle.items.specs.Reader.{head, byte, optional, digits, digit_count, decimal}
-use Rattle.items.specs.Read.{ended, quoted_character, quoted_string, negative, quotation, labelled, positive, operand, base, label_item, instruction_item}
+use Rattle.items.specs.Read.{ended, quoted_character, quoted_string, negative, quotation, labelled, positive, operand, base, label_item}
+use Rattle.items.specs.Read.{instruction_item}
 use Rattle.items.specs.Read.{constant_item, string_item, global_item, function_of, item}
 use Rattle.items.specs.Scan.{gaps, mark, trailing, body, scan}
 use Rattle.assembler.specs.Words.{operand_in_range, in_range, short, size, operand_word, words}

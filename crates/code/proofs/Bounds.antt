@@ -7,7 +7,8 @@ use Rattle.language.specs.Names as N
 use Rattle.language.specs.Names.{Found, Scope, opened, declared, lookup}
 use Rattle.language.specs.Constants.{for_vector, judged_word}
 use Rattle.language.specs.Resolve as E
-use Rattle.language.specs.Resolve.{Side, side, no_side, declare_all, of_meaning, side_of, target_of, address_of, under, scope_after, pair_up, values_before}
+use Rattle.language.specs.Resolve.{Side, side, no_side, declare_all, of_meaning, side_of, target_of, address_of, under, scope_after, pair_up}
+use Rattle.language.specs.Resolve.{values_before}
 use Rattle.language.specs.Resolve.{labels_before, leaving}
 use Rattle.language.specs.Resolved as R
 use Rattle.language.specs.Resolved.{Expr, Exprs, Cmd, Locals, case_count}

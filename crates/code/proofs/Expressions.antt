@@ -1,5 +1,6 @@
 -- The simulation of expressions, but for calls: one lemma for each form.
-use Rattle.laws.proofs.Basics.{ℕ, suc, ◌+◌, ◌<◌, ◌≤◌, ◌≡◌, refl, ap, ◌∙◌, List, [], ◌∷◌, ◌++◌, Bool, true, false, cond, Option, some, none, get_or, eqb}
+use Rattle.laws.proofs.Basics.{ℕ, suc, ◌+◌, ◌<◌, ◌≤◌, ◌≡◌, refl, ap, ◌∙◌, List, [], ◌∷◌, ◌++◌, Bool, true, false, cond, Option, some, none, get_or}
+use Rattle.laws.proofs.Basics.{eqb}
 use Rattle.laws.proofs.Basics.{le_refl, arith}
 use Rattle.laws.proofs.Cases.{by_cases, contradiction}
 use Rattle.words.specs.Words.{add, neg, complement, mul, quot, rem, eq, ne, lt, ge, gt, le, conj, disj, shl, shr}

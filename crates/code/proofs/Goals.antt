@@ -4,7 +4,8 @@ use Rattle.items.specs.Item.{Item, label}
 use Rattle.language.specs.Resolved as R
 use Rattle.language.specs.Resolved.{Expr, Cmd}
 use Rattle.language.specs.State.{gone, Value, State, step}
-use Rattle.language.specs.Run.{Flow, normal, broke, looped, ended, gave, Loop, whiling, repeating, repeating_while, counting, Sem, position_of, no_fun}
+use Rattle.language.specs.Run.{Flow, normal, broke, looped, ended, gave, Loop, whiling, repeating, repeating_while, counting, Sem, position_of}
+use Rattle.language.specs.Run.{no_fun}
 use Rattle.code.specs.Generate.{Exits, in_loop, expr_code, cmd_code, body_code, X, LIP, A, SP, FL, JL, limit_act}
 use Rattle.code.proofs.Results.{Has}
 use Rattle.code.proofs.Machine.{Mach}

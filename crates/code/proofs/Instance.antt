@@ -9,7 +9,8 @@ use Rattle.machine.specs.Acts as A
 use Rattle.machine.specs.Step as S
 use Rattle.machine.specs.Run.{run, steps, resume}
 use Rattle.items.proofs.Rendered.{AllSound}
-use Rattle.items.specs.Render.{numeral, numeral_of, operand_text, base_text, indirect_text, letter, plain_text, character_text, characters_text, render}
+use Rattle.items.specs.Render.{numeral, numeral_of, operand_text, base_text, indirect_text, letter, plain_text, character_text, characters_text}
+use Rattle.items.specs.Render.{render}
 use Rattle.items.specs.Render.{render_lines, render_all}
 use Rattle.language.specs.Heights.{count, height_with}
 use Rattle.language.specs.Resolved as R
@@ -24,7 +25,8 @@ use Rattle.language.proofs.Formed.{FormedE, FormedA, FormedC, FormedF}
 use Rattle.text.specs.Line.{refusal, line_of, newlines}
 use Rattle.text.specs.Quoted.{quoted, character, by_digits, by_number, escape}
 use Rattle.items.specs.Reader.{head, byte, optional, digits, digit_count, decimal}
-use Rattle.items.specs.Read.{ended, quoted_character, quoted_string, negative, quotation, labelled, positive, operand, base, label_item, instruction_item}
+use Rattle.items.specs.Read.{ended, quoted_character, quoted_string, negative, quotation, labelled, positive, operand, base, label_item}
+use Rattle.items.specs.Read.{instruction_item}
 use Rattle.items.specs.Read.{constant_item, string_item, global_item, function_of, item}
 use Rattle.items.specs.Scan.{gaps, mark, trailing, body, scan}
 use Rattle.assembler.specs.Words.{operand_in_range, in_range, short, size, operand_word, words}

@@ -5,7 +5,8 @@ use Rattle.laws.proofs.Basics.{length-append, eqb, ltb, leb, arith, lt-ltb}
 use Rattle.laws.proofs.Cases.{by_cases}
 use Rattle.items.specs.Item as I
 use Rattle.items.specs.Item.{Operand, number, address, Base, Item, label, instruction, constant}
-use Rattle.items.specs.Render.{numeral, numeral_of, operand_text, base_text, indirect_text, plain_text, character_text, characters_text, render, render_lines}
+use Rattle.items.specs.Render.{numeral, numeral_of, operand_text, base_text, indirect_text, plain_text, character_text, characters_text, render}
+use Rattle.items.specs.Render.{render_lines}
 use Rattle.items.specs.Render.{render_all}
 use Rattle.items.proofs.Sound.{Sound, SoundOperand}
 use Rattle.items.proofs.Rendered.{AllSound}

@@ -12,8 +12,10 @@ use Rattle.language.specs.Resolved.{CaseLabel, Expr, Exprs, Target, Pairs, Cmd, 
 use Rattle.language.specs.Resolved.{case_count}
 use Rattle.language.specs.Heights.{count, height_with}
 use Rattle.code.specs.Generate.{Exits, in_loop, in_switch, in_valof, monadic_act, commands_in, expr_labels, exprs_labels, target_labels, pairs_labels}
-use Rattle.code.specs.Generate.{cmd_labels, cmds_labels, cases_labels, locals_labels, body_labels, pairs_of, table_of, expr_code, exprs_code, target_code}
-use Rattle.code.specs.Generate.{pairs_code, cmd_code, cmds_code, cases_code, locals_code, body_code, functions_code, strings_code, start_in, starts_code}
+use Rattle.code.specs.Generate.{cmd_labels, cmds_labels, cases_labels, locals_labels, body_labels, pairs_of, table_of, expr_code, exprs_code}
+use Rattle.code.specs.Generate.{target_code}
+use Rattle.code.specs.Generate.{pairs_code, cmd_code, cmds_code, cases_code, locals_code, body_code, functions_code, strings_code, start_in}
+use Rattle.code.specs.Generate.{starts_code}
 use Rattle.code.specs.Generate.{items_of}
 use Rattle.code.proofs.WordCounts.{expr_words, exprs_words, target_words, pairs_words, cmd_words, cmds_words, cases_words, locals_words, body_words}
 

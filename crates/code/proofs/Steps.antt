@@ -1,5 +1,6 @@
 -- Instructions as runs: what follows gets the machine after one as a variable, with what is known of it.
-use Rattle.laws.proofs.Basics.{ℕ, ◌+◌, ◌<◌, ◌≤◌, ◌≡◌, refl, ap, Bool, true, false, cond, length, get_or, get_or-set_same, get_or-set_other, eqb, arith}
+use Rattle.laws.proofs.Basics.{ℕ, ◌+◌, ◌<◌, ◌≤◌, ◌≡◌, refl, ap, Bool, true, false, cond, length, get_or, get_or-set_same, get_or-set_other, eqb}
+use Rattle.laws.proofs.Basics.{arith}
 use Rattle.words.specs.Words.{add, neg, complement}
 use Rattle.items.specs.Item as I
 use Rattle.items.specs.Item.{P, G}

@@ -9,7 +9,8 @@ use Rattle.language.specs.Resolved as R
 use Rattle.language.specs.Resolved.{Expr, CaseLabel, Cases, has_default, has_case, cases_of, case_count}
 use Rattle.language.specs.State.{State, ok}
 use Rattle.language.specs.Run.{Flow, normal, broke, looped, ended, gave, Sem, executed, cases, from, or_none, or_else, selected, after_switch}
-use Rattle.code.specs.Generate.{Exits, in_switch, expr_code, expr_labels, cmd_code, cmd_labels, cases_code, pairs_of, table_of, default_of, commands_in}
+use Rattle.code.specs.Generate.{Exits, in_switch, expr_code, expr_labels, cmd_code, cmd_labels, cases_code, pairs_of, table_of, default_of}
+use Rattle.code.specs.Generate.{commands_in}
 use Rattle.code.proofs.Results.{post-demand}
 use Rattle.code.proofs.Machine.{Mach}
 use Rattle.code.proofs.Standing.{Env, Agree, Word, Code, end, cut, cut-number, cut-label, cut_word, cut-place, at-end}

@@ -1,6 +1,7 @@
 -- The placement rules of the compiler's text: every function and string labelled, entries that differ, strings in place and apart.
 use Rattle.laws.proofs.Basics.{ℕ, zero, suc, ◌+◌, ◌-◌, ◌<◌, ◌≤◌, ◌≡◌, refl, sym, ◌∙◌, List, [], ◌∷◌, ◌++◌, append_assoc, true, false, inl, length}
-use Rattle.laws.proofs.Basics.{get_or, take, drop, replicate, length-drop, length-take-le, get_or-take, get_or-drop, ext_get_or, eqb, add-zero, arith, eq-eqb}
+use Rattle.laws.proofs.Basics.{get_or, take, drop, replicate, length-drop, length-take-le, get_or-take, get_or-drop, ext_get_or, eqb, add-zero, arith}
+use Rattle.laws.proofs.Basics.{eq-eqb}
 use Rattle.laws.proofs.Basics.{ne_eqb, add-shift}
 use Rattle.laws.proofs.Cases.{by_order, by_cond}
 use Rattle.items.specs.Item.{Item, label}

@@ -1,6 +1,7 @@
 -- From the walk of the tree to the answer: what the walk asks holds of every tree that is read, and what it leaves is the generator's text.
 use Rattle.laws.proofs.Basics.{ℕ, zero, suc, ◌+◌, ◌-◌, ◌*◌, ◌≤◌, ◌≡◌, refl, sym, ap, ◌∙◌, List, [], ◌∷◌, ◌++◌, append_assoc, Bool, true, false, not}
-use Rattle.laws.proofs.Basics.{cond, length, get_or, take, drop, replicate, length-append, List·getD-append, length-take-le, get_or-append-add, eqb, ltb}
+use Rattle.laws.proofs.Basics.{cond, length, get_or, take, drop, replicate, length-append, List·getD-append, length-take-le, get_or-append-add, eqb}
+use Rattle.laws.proofs.Basics.{ltb}
 use Rattle.laws.proofs.Basics.{add-one, arith, eqb-true, ne_eqb, ltb-false}
 use Rattle.laws.proofs.Cases.{by_cases, contradiction}
 use Rattle.language.specs.Kinds.{STRING}

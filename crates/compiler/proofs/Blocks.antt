@@ -4,7 +4,8 @@ use Rattle.laws.proofs.Basics.{arith}
 use Rattle.language.specs.Tree as T
 use Rattle.compiler.proofs.Language.{Name, Expressions, Command, Commands, Unlabelled, command_depth, commands_depth, unlabelled_depth}
 use Rattle.compiler.proofs.Language.{locals_depth, Scope, opened, declared, for_vector, judged_word, expressions, commands, unlabelled, locals}
-use Rattle.compiler.proofs.Language.{values_before, declare_all, scope_after, height_after, of_exprs, of_locals, of_cmd, of_cmds, Leavable, in_commands}
+use Rattle.compiler.proofs.Language.{values_before, declare_all, scope_after, height_after, of_exprs, of_locals, of_cmd, of_cmds, Leavable}
+use Rattle.compiler.proofs.Language.{in_commands}
 use Rattle.compiler.proofs.Language.{in_locals, in_unlabelled, encode_command, encode_commands, encode_locals, FineCommands, FineLocals}
 use Rattle.compiler.proofs.Language.{FineUnlabelled}
 use Rattle.language.specs.Names as N

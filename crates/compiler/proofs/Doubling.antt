@@ -3,7 +3,8 @@ use Rattle.laws.proofs.Basics.{ℕ, ◌+◌, ◌-◌, ◌/◌, ◌%◌, ◌^◌,
 use Rattle.laws.proofs.Basics.{true, false, cond, length, get_or, set, replicate, length-set, length-replicate, eqb, arith, eqb-true, eqb-false}
 use Rattle.laws.proofs.Cases.{by_cases}
 use Rattle.language.specs.Tree as T
-use Rattle.compiler.proofs.Language.{doubled_label, Label, Commands, Scope, fault, Judged, good, refused, judge, judged_word, CaseLabel, has_case, has_default}
+use Rattle.compiler.proofs.Language.{doubled_label, Label, Commands, Scope, fault, Judged, good, refused, judge, judged_word, CaseLabel, has_case}
+use Rattle.compiler.proofs.Language.{has_default}
 use Rattle.compiler.proofs.Language.{labels_before, labels_of, good_case, doubled_case, doubled}
 use Rattle.language.specs.Resolved as R
 use Rattle.compiler.proofs.Vocabulary.{State, Node, NodeAt, Did, Faulted, Verdict, label_faults, ReadyLabels, JudgesLabels}

@@ -3,7 +3,8 @@ use Rattle.laws.proofs.Basics.{ℕ, ◌+◌, ◌-◌, ◌*◌, ◌/◌, ◌%◌,
 use Rattle.laws.proofs.Basics.{false, cond, length, get_or, length-append, leb, arith, le-leb, lt-leb}
 use Rattle.language.specs.Tree as T
 use Rattle.compiler.proofs.Language.{Name, Simple, Constant, expressions_depth, Scope, lookup, fault, Judged, good, refused, judge, for_vector}
-use Rattle.compiler.proofs.Language.{judged_word, faults_of, signed, of_found, of_simple, within, declare_all, encode_name, encode_names, encode_constant}
+use Rattle.compiler.proofs.Language.{judged_word, faults_of, signed, of_found, of_simple, within, declare_all, encode_name, encode_names}
+use Rattle.compiler.proofs.Language.{encode_constant}
 use Rattle.compiler.proofs.Language.{encode_positive, encode_negative, encode_expressions, FineName, FineNames, FineConstant}
 use Rattle.language.specs.Names as N
 use Rattle.code.specs.Generate as G

@@ -2,7 +2,8 @@
 pub use Rattle.language.specs.Tree.{Command, Commands, Constant, Declaration, Expression, Expressions, Function, Item, Label, Locals, Name}
 pub use Rattle.language.specs.Tree.{Operations, Program, Repeats, Simple, Suffixes, Unlabelled}
 unfoldable pub use Rattle.language.specs.Tree.{ends_in_call, is_call, place_of}
-pub use Rattle.language.specs.Names.{Found, Meaning, Scope, declared, function, global, known, local, manifest, on_found, opened, outermost, same_name}
+pub use Rattle.language.specs.Names.{Found, Meaning, Scope, declared, function, global, known, local, manifest, on_found, opened, outermost}
+pub use Rattle.language.specs.Names.{same_name}
 pub use Rattle.language.specs.Names.{unknown}
 unfoldable pub use Rattle.language.specs.Names.{in_block, lookup, same_bytes}
 pub use Rattle.language.specs.Constants.{Fault, Judged, fault, faults_of, for_vector, good, judged_word, of_found, of_simple, refused, signed, within}
@@ -12,7 +13,8 @@ unfoldable pub use Rattle.language.specs.Fine.{Fine, FineCommand, FineCommands, 
 unfoldable pub use Rattle.language.specs.Fine.{FineOperations, FineProgram, FineRepeats, FineSuffixes, FineUnlabelled}
 pub use Rattle.language.specs.Resolved.{CaseLabel, Cmd, Expr, Fun, Start, in_global, nowhere}
 unfoldable pub use Rattle.language.specs.Resolved.{case_count, cases_of, has_case, has_default}
-pub use Rattle.language.specs.Resolve.{Side, address_of, by_of, good_case, labels_before, no_side, of_meaning, pair_up, resolved_monadic, side, target_of}
+pub use Rattle.language.specs.Resolve.{Side, address_of, by_of, good_case, labels_before, no_side, of_meaning, pair_up, resolved_monadic, side}
+pub use Rattle.language.specs.Resolve.{target_of}
 pub use Rattle.language.specs.Resolve.{values_before}
 unfoldable pub use Rattle.language.specs.Resolve.{case_list, command, commands, declare_all, expression, expressions, height_after, labels_of, locals}
 unfoldable pub use Rattle.language.specs.Resolve.{operations, repeats, scope_after, side_of, sides, suffixes, under, unlabelled}

@@ -4,10 +4,12 @@ use Rattle.laws.proofs.Basics.{length-append, eqb, leb, arith, eq-eqb, ne_eqb, l
 use Rattle.laws.proofs.Cases.{by_cases}
 use Rattle.language.specs.Kinds as K
 use Rattle.language.specs.Tree as T
-use Rattle.compiler.proofs.Language.{Item, Function, Declaration, Scope, declared, global, manifest, lookup, Fault, Judged, judge, within, judged_word, FineDeclaration}
+use Rattle.compiler.proofs.Language.{Item, Function, Declaration, Scope, declared, global, manifest, lookup, Fault, Judged, judge, within}
+use Rattle.compiler.proofs.Language.{judged_word, FineDeclaration}
 use Rattle.compiler.proofs.Language.{declaration_depth, functions_depth, encode_name, encode_constant, encode_items, encode_functions}
 use Rattle.language.specs.Constants as J
-use Rattle.language.specs.Program.{Walk, start_of, with_function, resolved, globals_after, manifests_after, functions_after, declared_by, group_name_faults}
+use Rattle.language.specs.Program.{Walk, start_of, with_function, resolved, globals_after, manifests_after, functions_after, declared_by}
+use Rattle.language.specs.Program.{group_name_faults}
 use Rattle.language.specs.Program.{group_faults, group_of, height_faults, after_declaration}
 use Rattle.language.specs.Whole.{funs}
 use Rattle.code.specs.Generate as G

@@ -5,7 +5,8 @@ use Rattle.laws.proofs.Cases.{contradiction}
 use Rattle.language.specs.Tree as T
 use Rattle.compiler.proofs.Language.{Declaration, Program, Fault, Start, nowhere, in_global, FineDeclaration, FineProgram, declaration_depth}
 use Rattle.compiler.proofs.Language.{program_depth, encode_program}
-use Rattle.language.specs.Program.{Walk, Named, begin, among, functions_after, after_declaration, declaration_faults, declaration_functions, faults_from}
+use Rattle.language.specs.Program.{Walk, Named, begin, among, functions_after, after_declaration, declaration_faults, declaration_functions}
+use Rattle.language.specs.Program.{faults_from}
 use Rattle.language.specs.Program.{functions_from}
 use Rattle.language.specs.Whole.{funs}
 use Rattle.compiler.specs.Scope as S

@@ -1,6 +1,7 @@
 -- Laws of spelling, of the stack of names, and of what is pushed on it.
 use Rattle.laws.proofs.Basics.{ℕ, zero, suc, ◌+◌, ◌-◌, ◌*◌, ◌/◌, ◌%◌, ◌<◌, ◌≤◌, min, ◌≡◌, refl, sym, ap, ◌∙◌, List, [], ◌∷◌, Bool, true, false, cond}
-use Rattle.laws.proofs.Basics.{length, get_or, set, take, drop, length-set, length-take, length-drop, get_or-drop, get_or-set_same, get_or-set_other, eqb}
+use Rattle.laws.proofs.Basics.{length, get_or, set, take, drop, length-set, length-take, length-drop, get_or-drop, get_or-set_same, get_or-set_other}
+use Rattle.laws.proofs.Basics.{eqb}
 use Rattle.laws.proofs.Basics.{arith, eq-eqb, ne_eqb}
 use Rattle.laws.proofs.Cases.{by_cases, either}
 use native.Mathlib.Numerals.{unary_clauses}

@@ -1,6 +1,7 @@
 -- The text of the strings: a character by its escape, a string's line, the lines of one symbol, and loops over all symbols.
 use Rattle.laws.proofs.Basics.{ℕ, suc, ◌+◌, ◌-◌, ◌*◌, ◌/◌, ◌%◌, ◌<◌, ◌≤◌, ◌≡◌, refl, sym, ap, ◌∙◌, List, [], ◌∷◌, ◌++◌, append_assoc, append-nil}
-use Rattle.laws.proofs.Basics.{cond, length, get_or, drop, length-append, drop-drop, get_or-drop, eqb, add-zero, arith, eq-eqb, ne_eqb, le-leb, lt-leb}
+use Rattle.laws.proofs.Basics.{cond, length, get_or, drop, length-append, drop-drop, get_or-drop, eqb, add-zero, arith, eq-eqb, ne_eqb, le-leb}
+use Rattle.laws.proofs.Basics.{lt-leb}
 use Rattle.laws.proofs.Cases.{by_cases, either}
 use Rattle.text.specs.Quoted.{closed, characters_of, quoted, character, is, closing, ended, mistake}
 use Rattle.text.proofs.Bytes.{Unlike}

@@ -1,5 +1,6 @@
 -- SWITCHON: the loop over the list after INTO, and the whole.
-use Rattle.laws.proofs.Basics.{ℕ, suc, ◌+◌, ◌-◌, ◌*◌, ◌^◌, ◌<◌, ◌≤◌, ◌≡◌, refl, sym, ap, subst, ◌∙◌, List, [], ◌∷◌, ◌++◌, append_assoc, length, get_or}
+use Rattle.laws.proofs.Basics.{ℕ, suc, ◌+◌, ◌-◌, ◌*◌, ◌^◌, ◌<◌, ◌≤◌, ◌≡◌, refl, sym, ap, subst, ◌∙◌, List, [], ◌∷◌, ◌++◌, append_assoc, length}
+use Rattle.laws.proofs.Basics.{get_or}
 use Rattle.laws.proofs.Basics.{length-append, arith, ne_eqb}
 use Rattle.items.specs.Item as I
 use Rattle.language.specs.Kinds as K

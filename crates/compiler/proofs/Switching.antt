@@ -5,7 +5,8 @@ use Rattle.laws.proofs.Cases.{contradiction}
 use Rattle.items.specs.Item as I
 use Rattle.language.specs.Tree as T
 use Rattle.compiler.proofs.Language.{Name, Constant, Label, Command, Commands, Scope, lookup, fault, Judged, good, refused, judge, signed}
-use Rattle.compiler.proofs.Language.{of_found, of_simple, faults_of, has_default, cases_of, case_count, labels_before, labels_of, good_case, case_list}
+use Rattle.compiler.proofs.Language.{of_found, of_simple, faults_of, has_default, cases_of, case_count, labels_before, labels_of, good_case}
+use Rattle.compiler.proofs.Language.{case_list}
 use Rattle.compiler.proofs.Language.{doubled_case, doubled_label, doubled, FineCommand, FineCommands, encode_command, encode_commands}
 use Rattle.language.specs.Names as N
 use Rattle.code.specs.Generate as G

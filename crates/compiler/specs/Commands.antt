@@ -12,7 +12,8 @@ use Rattle.language.specs.Resolve.{leaving, expression, command, unlabelled, rep
 use Rattle.language.specs.Resolve.{resolved_monadic, declare_all}
 use Rattle.language.specs.Heights.{of_expr, of_target, of_pairs, of_cmd, of_cmds, of_cases}
 use Rattle.code.specs.Generate as G
-use Rattle.language.specs.Faults.{Leavable, unless, leaves, in_expression, in_command, in_case, in_unlabelled, in_repeats, in_commands, twice, repeated}
+use Rattle.language.specs.Faults.{Leavable, unless, leaves, in_expression, in_command, in_case, in_unlabelled, in_repeats, in_commands, twice}
+use Rattle.language.specs.Faults.{repeated}
 use Rattle.language.specs.Faults.{unless_side}
 use Rattle.tree.specs.Encoding as O
 use Rattle.tree.specs.Encoding.{encode, encode_command, encode_commands, encode_unlabelled, encode_repeats, encode_names}

@@ -21,7 +21,8 @@ use Rattle.compiler.specs.Commands.{nothing}
 use Rattle.compiler.specs.declared.steps.State.{State}
 use Rattle.compiler.specs.declared.steps.Here.{Here}
 use Rattle.language.specs.Whole.{funs}
-use Rattle.language.specs.Program.{Named, body_of, body_faults, start_of, with_function, functions_after, taken_after, group_name_faults, group_faults}
+use Rattle.language.specs.Program.{Named, body_of, body_faults, start_of, with_function, functions_after, taken_after, group_name_faults}
+use Rattle.language.specs.Program.{group_faults}
 use Rattle.language.specs.Program.{function_faults, resolved, group_of, height_faults, name_fault, also_taken}
 use Rattle.compiler.specs.declared.outer.Known.{Known}
 use Rattle.compiler.specs.declared.program.Done.{Done}

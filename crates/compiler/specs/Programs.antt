@@ -13,7 +13,8 @@ use Rattle.compiler.specs.Fine.{STRINGS}
 use Rattle.compiler.specs.Items.{Items}
 use Rattle.compiler.specs.Walks.{Holds}
 use Rattle.compiler.specs.Walked.{Did, least, AllFit}
-use Rattle.language.specs.Program.{Walk, begin, after_declaration, declaration_faults, declaration_functions, faults_from, functions_from, height_faults}
+use Rattle.language.specs.Program.{Walk, begin, after_declaration, declaration_faults, declaration_functions, faults_from, functions_from}
+use Rattle.language.specs.Program.{height_faults}
 use Rattle.language.specs.Program.{Named}
 use Rattle.language.specs.Whole.{funs}
 use Rattle.compiler.specs.Groups.{FineDs, Small, Taken, Starting, functions_says}

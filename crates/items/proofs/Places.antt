@@ -1,5 +1,6 @@
 -- Readers at a place of a text: the byte there, and reading on from place to place.
-use Rattle.laws.proofs.Basics.{ℕ, ◌+◌, ◌<◌, ◌≤◌, ◌≡◌, refl, sym, ap, ◌∙◌, List, [], ◌∷◌, Bool, true, false, cond, length, get_or, drop, drop-drop, eqb}
+use Rattle.laws.proofs.Basics.{ℕ, ◌+◌, ◌<◌, ◌≤◌, ◌≡◌, refl, sym, ap, ◌∙◌, List, [], ◌∷◌, Bool, true, false, cond, length, get_or, drop, drop-drop}
+use Rattle.laws.proofs.Basics.{eqb}
 use Rattle.laws.proofs.Basics.{ltb, arith, eqb-true, ne_eqb, ltb-true, ltb-false}
 use Rattle.laws.proofs.Cases.{by_cases, by_cond, contradiction}
 use Rattle.text.proofs.Bytes.{at_byte, past_end, Unlike}

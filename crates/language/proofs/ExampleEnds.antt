@@ -11,7 +11,8 @@ use Rattle.language.specs.Heights as H
 use Rattle.language.specs.Program.{globals_after, functions_after, declared_by, resolved, after_declaration, group_of, functions_from, functions_of}
 use Rattle.language.specs.State.{holds, Value, State, Result, unfinished, undefined, finished, returned, ok, bind}
 use Rattle.language.specs.Run.{Placement, position_of, called, evaluated, assigned, assigned_all, sequence, declared, executed, sem}
-use Rattle.language.specs.Whole.{funs, functions_in, strings_among, strings_in, globals_with, string_cell, cells_at_start, at_start, run_with, by_return}
+use Rattle.language.specs.Whole.{funs, functions_in, strings_among, strings_in, globals_with, string_cell, cells_at_start, at_start, run_with}
+use Rattle.language.specs.Whole.{by_return}
 use Rattle.language.specs.Whole.{SourceRunEnds}
 use Rattle.language.proofs.Texts.{answer}
 use Rattle.language.proofs.Runs.{Held}

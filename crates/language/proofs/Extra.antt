@@ -1,7 +1,8 @@
 -- Two sources, the second with extra semicolons, each between a LOOP and a symbol of the second list of inserted semicolons, but for a
 -- bracket. What a reader gives of the first it gives of the second. Here are the rules for the ways to put readers together, with
 -- those of Local, so that the grammar is gone through once for both; ExtraGrammar has the grammar, Loops the texts.
-use Rattle.laws.proofs.Basics.{ℕ, zero, suc, ◌+◌, ◌≤◌, ◌≡◌, refl, sym, ap, ◌∙◌, List, [], ◌∷◌, Bool, true, false, cond, length, get_or, drop, drop-drop}
+use Rattle.laws.proofs.Basics.{ℕ, zero, suc, ◌+◌, ◌≤◌, ◌≡◌, refl, sym, ap, ◌∙◌, List, [], ◌∷◌, Bool, true, false, cond, length, get_or, drop}
+use Rattle.laws.proofs.Basics.{drop-drop}
 use Rattle.laws.proofs.Basics.{get_or-drop, eqb, arith, eqb-true}
 use Rattle.laws.proofs.Cases.{by_cases, contradiction}
 use Rattle.language.specs.Kinds as K

@@ -1,6 +1,7 @@
 -- A word below a call's frame that holds a value keeps holding one, whatever the call does: further frames stand above it, and elsewhere a
 -- value is only written over a value. So where a source run ends, the globals and the strings, below the stack, all hold values.
-use Rattle.laws.proofs.Basics.{ℕ, zero, suc, ◌+◌, ◌<◌, ◌≤◌, ◌≡◌, refl, List, [], ◌∷◌, Bool, true, false, cond, length, get_or, ltb, leb, arith, lt-ltb}
+use Rattle.laws.proofs.Basics.{ℕ, zero, suc, ◌+◌, ◌<◌, ◌≤◌, ◌≡◌, refl, List, [], ◌∷◌, Bool, true, false, cond, length, get_or, ltb, leb, arith}
+use Rattle.laws.proofs.Basics.{lt-ltb}
 use Rattle.laws.proofs.Basics.{le-ltb, le-leb}
 use Rattle.laws.proofs.Cases.{by_cond}
 use Rattle.text.specs.Packed.{pairs}

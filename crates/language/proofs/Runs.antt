@@ -1,7 +1,8 @@
 -- One induction over all forms of the source run. A relation between two results that come of one state is `Closed` where it bears what the
 -- forms do: end, change the state, reach a height, and go on from one result to the next. If the meanings of the parts are so related
 -- (`Related`), then so are an expression, a command, a turn of a loop and a call of them. `Limits`, `Fuel` and `Held` are its instances.
-use Rattle.laws.proofs.Basics.{ℕ, suc, ◌+◌, ◌<◌, ◌≤◌, ◌≡◌, refl, List, [], ◌∷◌, ◌++◌, Bool, true, false, cond, Option, some, none, length, get_or, eqb}
+use Rattle.laws.proofs.Basics.{ℕ, suc, ◌+◌, ◌<◌, ◌≤◌, ◌≡◌, refl, List, [], ◌∷◌, ◌++◌, Bool, true, false, cond, Option, some, none, length, get_or}
+use Rattle.laws.proofs.Basics.{eqb}
 use Rattle.laws.proofs.Basics.{ltb, leb, arith, leb-true}
 use Rattle.laws.proofs.Cases.{by_cases, by_cond}
 use Rattle.words.specs.Words.{add}

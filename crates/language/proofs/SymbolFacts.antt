@@ -1,6 +1,7 @@
 -- What is known of a source's symbols: numbers are words, as are the places and widths of names, strings have their positions, and no more
 -- symbols are counted than were scanned.
-use Rattle.laws.proofs.Basics.{ℕ, zero, suc, ◌+◌, ◌-◌, ◌<◌, ◌≤◌, ◌≡◌, refl, sym, ap, ◌∙◌, List, [], ◌∷◌, Bool, true, false, cond, length, get_or, take}
+use Rattle.laws.proofs.Basics.{ℕ, zero, suc, ◌+◌, ◌-◌, ◌<◌, ◌≤◌, ◌≡◌, refl, sym, ap, ◌∙◌, List, [], ◌∷◌, Bool, true, false, cond, length, get_or}
+use Rattle.laws.proofs.Basics.{take}
 use Rattle.laws.proofs.Basics.{drop, drop-drop, eqb, arith, eqb-true, eqb-false, ne_eqb}
 use Rattle.laws.proofs.Cases.{by_cases, by_cond, either, contradiction}
 use Rattle.text.specs.Quoted.{characters_of, quoted}

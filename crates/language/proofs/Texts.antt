@@ -8,7 +8,8 @@ use Rattle.text.specs.Written.{bytes}
 use Rattle.language.specs.Bytes.{class_of}
 use Rattle.language.specs.Kinds.{reserved, signs, member}
 use Rattle.language.specs.Symbols as S
-use Rattle.language.specs.Symbols.{begins, word_width, kind_in, kind_of, word, digits, value_of, decimal, octal, string, sign_in, to_line_end, comment}
+use Rattle.language.specs.Symbols.{begins, word_width, kind_in, kind_of, word, digits, value_of, decimal, octal, string, sign_in, to_line_end}
+use Rattle.language.specs.Symbols.{comment}
 use Rattle.language.specs.Symbols.{sign, sign_or_comment, by_class, scan_from, scan}
 use Rattle.language.specs.Brackets.{closing, bracket, brackets}
 use Rattle.language.specs.Strings.{numbered}

@@ -19,7 +19,8 @@ use Rattle.language.specs.Operators.{apply_monadic, apply_dyadic}
 use Rattle.language.specs.State.{Value, State, Result, unfinished, undefined, finished, returned, ok, bind}
 use Rattle.language.specs.Run.{Placement, from, selected, nth, position_of, called, arguments, evaluated, assigned, assigned_all, sequence, cases}
 use Rattle.language.specs.Run.{declared, executed, turned, sem}
-use Rattle.language.specs.Whole.{refusal_of, on_read, funs, functions_in, strings_among, strings_in, globals_with, string_cell, cells_at_start, run_with}
+use Rattle.language.specs.Whole.{refusal_of, on_read, funs, functions_in, strings_among, strings_in, globals_with, string_cell, cells_at_start}
+use Rattle.language.specs.Whole.{run_with}
 use Rattle.words.specs.Words.{value, word_of, mul, quot, rem, below, shl, shr}
 use Rattle.text.specs.Packed.{pairs}
 use Rattle.words.specs.Globals.{no_globals}

@@ -7,7 +7,8 @@ pub use mathlib.Core.Bool.{Bool, true, false, not, ◌&&◌, cond}
 pub use mathlib.Core.Logic.{◌⊎◌, inl, inr, ⊎_elim}
 pub use mathlib.Core.Option.{Option, some, none}
 pub use lib.ListN.{length, get_or, set, take, drop, replicate, length-append, length-set, length-take, length-drop, length-replicate, length-map}
-pub use lib.ListN.{get_or-replicate, drop_of_length-le, take-append-drop, replicate-append-replicate, get_or-append as List·getD-append, get_or-eq_default as List·getD-eq-default}
+pub use lib.ListN.{get_or-replicate, drop_of_length-le, take-append-drop, replicate-append-replicate, get_or-append as List·getD-append}
+pub use lib.ListN.{get_or-eq_default as List·getD-eq-default}
 pub use lib.Seq.{length-take-le, take_at, take-suc-set, take-length, drop_at, drop-cons, drop-drop, drop-append-add, get_or-take, get_or-drop}
 pub use lib.Seq.{get_or-set_same, get_or-set_other, get_or-append-add, get_or-append_seam, ext_get_or, set_at, sets, sets-eq, length-sets}
 pub use lib.Dec.{eqb, ltb, leb, lit<, lit≤}

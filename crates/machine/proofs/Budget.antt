@@ -1,6 +1,7 @@
 -- Runs by their budgets: a run of n + m instructions is the run of n, then of m where the first stopped for budget; output only grows,
 -- so that a smaller budget writes a beginning of what a larger one writes.
-use Rattle.laws.proofs.Basics.{ℕ, zero, suc, ◌+◌, ◌-◌, ◌<◌, ◌≤◌, ◌≡◌, refl, ap, ◌∙◌, List, Bool, ◌&&◌, length, get_or, length-set, get_or-set_other, eqb}
+use Rattle.laws.proofs.Basics.{ℕ, zero, suc, ◌+◌, ◌-◌, ◌<◌, ◌≤◌, ◌≡◌, refl, ap, ◌∙◌, List, Bool, ◌&&◌, length, get_or, length-set, get_or-set_other}
+use Rattle.laws.proofs.Basics.{eqb}
 use Rattle.laws.proofs.Basics.{leb, le_refl, le_trans, lt_of_lt_of_le, arith, ne_eqb}
 use Rattle.laws.proofs.Cases.{by_cases}
 use Rattle.machine.specs.State.{State, at, start_registers}

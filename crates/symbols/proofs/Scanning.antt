@@ -1,6 +1,7 @@
 -- From symbol to symbol: a scan is what stands at its place and the scan of the rest, and lines are counted on the way.
 use Rattle.laws.proofs.Basics.{ℕ, zero, suc, ◌+◌, ◌-◌, ◌<◌, ◌≤◌, ◌≡◌, refl, sym, ap, ◌∙◌, List, [], ◌∷◌, ◌++◌, Bool, true, false, not, cond, length}
-use Rattle.laws.proofs.Basics.{get_or, take, drop, length-drop, drop_of_length-le, drop-cons, drop-drop, eqb, add-zero, add-one, arith, eq-eqb, ne_eqb}
+use Rattle.laws.proofs.Basics.{get_or, take, drop, length-drop, drop_of_length-le, drop-cons, drop-drop, eqb, add-zero, add-one, arith, eq-eqb}
+use Rattle.laws.proofs.Basics.{ne_eqb}
 use Rattle.laws.proofs.Basics.{add-shift}
 use Rattle.laws.proofs.Cases.{by_cases, contradiction}
 use lib.Seq.{take-add}

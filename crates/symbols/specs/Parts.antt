@@ -1,5 +1,6 @@
 -- What the parts of `read_symbols` give, beside language's own definitions.
-use Rattle.std.specs.Prelude.{ℕ, zero, suc, ◌+◌, ◌*◌, ◌<◌, ◌≤◌, ◌≡◌, Bool, true, not, cond, ◌&&◌, List, [], ◌∷◌, ◌++◌, eqb, ltb, length, get_or, take, drop}
+use Rattle.std.specs.Prelude.{ℕ, zero, suc, ◌+◌, ◌*◌, ◌<◌, ◌≤◌, ◌≡◌, Bool, true, not, cond, ◌&&◌, List, [], ◌∷◌, ◌++◌, eqb, ltb, length, get_or, take}
+use Rattle.std.specs.Prelude.{drop}
 use Rattle.text.specs.Line.{line_of}
 use Rattle.language.specs.Bytes.{class_of}
 use Rattle.language.specs.Symbols.{Symbol, none, fault, Scan, ends, goes_on, scan_from, begins}

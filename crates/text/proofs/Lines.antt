@@ -1,5 +1,6 @@
 -- The newlines before a place, counted one byte at a time.
-use Rattle.laws.proofs.Basics.{ℕ, suc, ◌+◌, ◌-◌, ◌<◌, ◌≤◌, ◌≡◌, List, ◌∷◌, length, get_or, take, drop, drop_of_length-le, drop-cons, sub-zero, add-one}
+use Rattle.laws.proofs.Basics.{ℕ, suc, ◌+◌, ◌-◌, ◌<◌, ◌≤◌, ◌≡◌, List, ◌∷◌, length, get_or, take, drop, drop_of_length-le, drop-cons, sub-zero}
+use Rattle.laws.proofs.Basics.{add-one}
 use Rattle.laws.proofs.Basics.{arith, eq-eqb, ne_eqb}
 use lib.Seq.{take-nil}
 use Rattle.text.specs.Line.{newlines, line_of}

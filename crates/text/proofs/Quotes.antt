@@ -1,5 +1,6 @@
 -- Characters between quotes: one at a time, and what every reading of them satisfies.
-use Rattle.laws.proofs.Basics.{ℕ, zero, suc, ◌+◌, ◌-◌, ◌<◌, ◌≤◌, ◌≡◌, refl, sym, ap, ◌∙◌, List, [], ◌∷◌, true, false, ◌&&◌, cond, length, get_or, drop}
+use Rattle.laws.proofs.Basics.{ℕ, zero, suc, ◌+◌, ◌-◌, ◌<◌, ◌≤◌, ◌≡◌, refl, sym, ap, ◌∙◌, List, [], ◌∷◌, true, false, ◌&&◌, cond, length, get_or}
+use Rattle.laws.proofs.Basics.{drop}
 use Rattle.laws.proofs.Basics.{length-drop, eqb, leb, arith, eq-eqb, ne_eqb, leb-true, le-leb, lt-leb}
 use Rattle.laws.proofs.Cases.{by_cases, either, contradiction, both_true}
 use Rattle.text.proofs.Bytes.{Unlike, at_byte, past_end}

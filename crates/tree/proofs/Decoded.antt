@@ -1,6 +1,7 @@
 -- The source that scratch holds: its symbols lie there. What the reading of it makes of scratch, and when scratch is fit for it.
 use Rattle.laws.proofs.Basics.{ℕ, zero, suc, ◌+◌, ◌-◌, ◌*◌, ◌/◌, ◌^◌, ◌<◌, ◌≤◌, ◌≡◌, refl, sym, ap, subst, ◌∙◌, List, ◌++◌, Bool, true, false, cond}
-use Rattle.laws.proofs.Basics.{length, get_or, take, drop, replicate, List·getD-eq-default, length-take-le, get_or-drop, ltb, arith, ltb-true, ltb-false}
+use Rattle.laws.proofs.Basics.{length, get_or, take, drop, replicate, List·getD-eq-default, length-take-le, get_or-drop, ltb, arith, ltb-true}
+use Rattle.laws.proofs.Basics.{ltb-false}
 use Rattle.laws.proofs.Basics.{lt-ltb, le-ltb}
 use Rattle.laws.proofs.Cases.{by_cases, contradiction}
 use Rattle.language.specs.Symbols.{Symbol}

@@ -5,7 +5,8 @@ use Rattle.language.specs.Kinds as K
 use Rattle.language.specs.Kinds.{member}
 use Rattle.language.specs.Tree as T
 use Rattle.language.specs.Tree.{Name, Body}
-use Rattle.language.specs.Reader.{Source, Out, ok, no, on_out, kind_at, unexpected, the, optional, a_name, many_up_to, many, more_up_to, items, is_comma}
+use Rattle.language.specs.Reader.{Source, Out, ok, no, on_out, kind_at, unexpected, the, optional, a_name, many_up_to, many, more_up_to, items}
+use Rattle.language.specs.Reader.{is_comma}
 use Rattle.language.specs.Reader.{further_items, one_up_to_close, up_to_close}
 use Rattle.language.specs.Binding.{LOOSEST, is_declaration}
 use Rattle.language.specs.Expressions as E

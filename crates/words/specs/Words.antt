@@ -1,7 +1,8 @@
 -- Sixteen-bit words: the acts that the machine and the source run share (document 01, "The source run", first paragraph).
 -- A word is a number below 65,536. It stands for a signed number, its `value`: 65535 for -1, 32768 for -32768.
 -- Relations, quotients and remainders are those of the signed numbers; a result wraps to the word that stands for it.
-use Rattle.std.specs.Prelude.{ℕ, ◌+◌, ◌-◌, ◌*◌, ◌/◌, ◌%◌, ◌^◌, Bool, true, false, cond, not, ℤ, pos, negsuc, ◌==◌, bit_and, bit_or, int_div, int_lt, int_rem, nat_lt}
+use Rattle.std.specs.Prelude.{ℕ, ◌+◌, ◌-◌, ◌*◌, ◌/◌, ◌%◌, ◌^◌, Bool, true, false, cond, not, ℤ, pos, negsuc, ◌==◌, bit_and, bit_or, int_div, int_lt}
+use Rattle.std.specs.Prelude.{int_rem, nat_lt}
 
 -- wraps at 65,536
 abbrev pub word : ℕ → ℕ
