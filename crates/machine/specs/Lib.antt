@@ -1,3 +1,4 @@
+pub mod Stops
 pub mod Outcome
 pub mod State
 pub mod Fetch

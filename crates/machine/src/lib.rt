@@ -5,6 +5,8 @@
 // from any registers, so a run that stopped for budget or for room can be carried on.
 #![tactic(auto)]
 
+mod stops;
+
 ghost use Rattle.std.specs.Prelude.{◌≡◌, cond, eqb};
 ghost use Rattle.words.specs.Words.{add, neg, complement};
 ghost use Rattle.machine.specs.Outcome.{Out, ok, read};
@@ -17,6 +19,7 @@ ghost use Rattle.machine.specs.Run.{steps, resume, allowed, run};
 ghost use Rattle.machine.specs.Answers.{as_word, as_quotient, as_fetched, as_acted, Steps, Ends, CarriesOn};
 ghost use Rattle.machine.specs.Numbers.{value_of};
 
+pub use stops::{Stop, UnknownStop};
 use words::Divided;
 
 // The registers, the places reached in the input and the output, and what the last completed instruction stored: whether anything,

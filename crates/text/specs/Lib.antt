@@ -1,3 +1,4 @@
+pub mod Faults
 pub mod Written
 pub mod Line
 pub mod Quoted

@@ -1,11 +1,15 @@
 // What source text and assembly text share: line numbers, refusals, and characters between quotes.
 #![tactic(auto)]
 
+mod faults;
+
 ghost use Rattle.std.specs.Prelude.{◌≡◌, drop};
 ghost use Rattle.text.specs.Line.{line_of, refusal};
 ghost use Rattle.text.specs.Quoted.{digit, by_digits, by_number, escape, character, fault_before, quoted};
 ghost use Rattle.text.specs.Parts.{value_of, is_closed, widened};
 ghost use Rattle.text.specs.Answers.{as_character, as_quoted};
+
+pub use faults::{Fault, UnknownNumber};
 
 // A refusal: document 01's number, the place of the byte (from 0) and its line (from 1).
 #[derive(Drop)]
