@@ -1,5 +1,7 @@
 -- Characters and strings of the source, from what is read between their quotes.
 use Rattle.laws.proofs.Basics.{ℕ, suc, ◌+◌, ◌<◌, ◌≡◌, ◌∙◌, List, [], ◌∷◌, length, drop, length-drop, arith}
+use Rattle.std.specs.Prelude.{Some, None}
+use Rattle.laws.proofs.Cases.{contradiction}
 use Rattle.text.specs.Quoted as Q
 use Rattle.text.specs.Quoted.{closed, unclosed, faulty, quoted}
 use Rattle.text.specs.Parts.{value_of}
@@ -17,22 +19,21 @@ module _ (text : List ℕ) (at : ℕ) where
   -- ---- one character between single quotes
 
   module _ {n w : ℕ} (h : Counted (quoted 39 1 0 (drop at text)) n w) where
-    pub no-character : n ≡ 0 → E.Wrong 43 0 ≡ as_element (character (drop at text))
+    pub no-character : None ≡ value_of (Q.character 39 (drop at text)) → E.Wrong 43 0 ≡ as_element (character (drop at text))
     unfolding character as_element
-    no-character z = by h.characters h.is h.count
+    no-character f = by h.characters h.is
       where
-        by : (cs : List ℕ) → quoted 39 1 0 (drop at text) ≡ closed cs w → n ≡ length cs → E.Wrong 43 0 ≡ as_element (character (drop at text))
-        by [] e k = rw e
-        by (c ∷ cs) e k = absurd (omega arith)
+        by : (cs : List ℕ) → quoted 39 1 0 (drop at text) ≡ closed cs w → E.Wrong 43 0 ≡ as_element (character (drop at text))
+        by [] e = rw e
+        by (c ∷ cs) e = let z : None ≡ Some c = f ∙ first-is 39 1 (drop at text) e in contradiction cc
 
-    pub a-character : {v : ℕ} → (n ≡ 0 → ⊥) → v ≡ value_of (Q.character 39 (drop at text))
-        → E.Symbol 60 v (w + 1) ≡ as_element (character (drop at text))
+    pub a-character : {v : ℕ} → Some v ≡ value_of (Q.character 39 (drop at text)) → E.Symbol 60 v (w + 1) ≡ as_element (character (drop at text))
     unfolding character as_element
-    a-character {v} some f = by h.characters h.is h.count
+    a-character {v} f = by h.characters h.is
       where
-        by : (cs : List ℕ) → quoted 39 1 0 (drop at text) ≡ closed cs w → n ≡ length cs → E.Symbol 60 v (w + 1) ≡ as_element (character (drop at text))
-        by [] e k = absurd (some k)
-        by (c ∷ cs) e k = let u : v ≡ c = f ∙ first-is 39 1 (drop at text) e in let m : w + 1 ≡ suc w = omega arith in rw (e, u, m)
+        by : (cs : List ℕ) → quoted 39 1 0 (drop at text) ≡ closed cs w → E.Symbol 60 v (w + 1) ≡ as_element (character (drop at text))
+        by [] e = let z : Some v ≡ None = f ∙ first-is 39 1 (drop at text) e in contradiction cc
+        by (c ∷ cs) e = let z : Some v ≡ Some c = f ∙ first-is 39 1 (drop at text) e in let m : w + 1 ≡ suc w = omega arith in rw (e, m) cc
 
   pub character-unclosed : quoted 39 1 0 (drop at text) ≡ unclosed → E.Wrong 40 0 ≡ as_element (character (drop at text))
   unfolding character as_element

@@ -9,7 +9,7 @@ ghost use Rattle.symbols.specs.Spellings.{Rows};
 
 use crate::kinds::{NUMBER, STRING};
 use crate::spellings;
-use text::Quoted;
+use text::{Fault, Flaw};
 
 // A symbol's kind, its value and the number of bytes that write it; the bytes of a gap; or a refusal's number, and the number of bytes before the
 // one that is wrong.
@@ -183,17 +183,13 @@ fn octal_at(text: &[u8], at: usize) -> Element
 fn character_at(text: &[u8], at: usize) -> Element
     ensures { result ≡ as_element (character (drop at text.now)) }
 {
-    let constant = text::quoted_at(text, at, b'\'', 1);
-    match constant {
-        Quoted::Closed(n, width) => {
-            if n == 0 {
-                return Element::Wrong(43, 0);
-            }
-            let value = text::value_at(text, at, b'\'');
-            Element::Symbol(NUMBER, wide(value), width + 1)
-        }
-        Quoted::Unclosed => Element::Wrong(40, 0),
-        Quoted::Faulty(number, offset) => Element::Wrong(number, offset + 1),
+    match text::quoted_at(text, at, b'\'', 1) {
+        Ok(closed) => match text::value_at(text, at, b'\'') {
+            Some(value) => Element::Symbol(NUMBER, wide(value), closed.width + 1),
+            None => Element::Wrong(Fault::QuotedLength.number(), 0),
+        },
+        Err(Flaw::Unclosed) => Element::Wrong(Fault::Unclosed.number(), 0),
+        Err(Flaw::Faulty { fault, offset }) => Element::Wrong(fault.number(), offset + 1),
     }
 }
 
@@ -201,11 +197,10 @@ fn character_at(text: &[u8], at: usize) -> Element
 fn string_at(text: &[u8], at: usize) -> Element
     ensures { result ≡ as_element (string (drop at text.now)) }
 {
-    let constant = text::quoted_at(text, at, b'"', 255);
-    match constant {
-        Quoted::Closed(n, width) => Element::Symbol(STRING, n, width + 1),
-        Quoted::Unclosed => Element::Wrong(40, 0),
-        Quoted::Faulty(number, offset) => Element::Wrong(number, offset + 1),
+    match text::quoted_at(text, at, b'"', 255) {
+        Ok(closed) => Element::Symbol(STRING, closed.characters, closed.width + 1),
+        Err(Flaw::Unclosed) => Element::Wrong(Fault::Unclosed.number(), 0),
+        Err(Flaw::Faulty { fault, offset }) => Element::Wrong(fault.number(), offset + 1),
     }
 }
 
