@@ -11,27 +11,26 @@ use Rattle.assembler.specs.Words.{words, size, operand_word}
 use Rattle.assembler.specs.declared.Label.{Label}
 use Rattle.assembler.specs.Layout.{defined, address_of, misplaced, fault, known, unknowns}
 use Rattle.assembler.specs.Passes.{as_found, listed_from, listed, Indexes, put, filled, WritesAll}
-use Rattle.assembler.specs.declared.Found.{Found}
-use Rattle.assembler.specs.declared.Found.TheVariants.{At, Missing}
-use Rattle.assembler.specs.declared.Written.{Written}
+use Rattle.assembler.specs.declared.Faulted.{Faulted}
+use Rattle.std.specs.Prelude.{Option, Some, None, Result}
 use Rattle.assembler.proofs.Lookup.{was-at, was-missing}
 
 -- ---- an entry
 
-abbrev entry : ℕ → Found
-entry zero = Missing
-entry (suc a) = At (suc a)
+abbrev entry : ℕ → Option ℕ
+entry zero = None
+entry (suc a) = Some (suc a)
 
-entry-missing : (a : ℕ) → entry a ≡ Missing → a ≡ 0
+entry-missing : (a : ℕ) → entry a ≡ None → a ≡ 0
 entry-missing zero e = refl
 entry-missing (suc a) e = contradiction cc
 
-entry_at : (a : ℕ) → (a ≡ 0 → ⊥) → entry a ≡ At a
+entry_at : (a : ℕ) → (a ≡ 0 → ⊥) → entry a ≡ Some a
 entry_at zero h = absurd (h refl)
 entry_at (suc a) h = refl
 
 -- numbers below the first are not there
-below : (k m : ℕ) (index : List ℕ) → m < k → as_found (listed_from k index) m ≡ Missing
+below : (k m : ℕ) (index : List ℕ) → m < k → as_found (listed_from k index) m ≡ None
 unfolding listed_from as_found defined address_of
 below k m [] h = refl
 below k m (zero ∷ index) h = below (suc k) m index (omega arith)
@@ -49,10 +48,10 @@ module _ (index : List ℕ) (n : ℕ) where
   told : as_found (listed index) n ≡ entry (get_or index n 0)
   told = let e : 0 + n ≡ n = omega arith in rw e at (told-from 0 n index)
 
-  pub found_none : get_or index n 0 ≡ 0 → Missing ≡ as_found (listed index) n
+  pub found_none : get_or index n 0 ≡ 0 → None ≡ as_found (listed index) n
   found_none e = sym (told ∙ ap entry e)
 
-  pub found_at : (get_or index n 0 ≡ 0 → ⊥) → At (get_or index n 0) ≡ as_found (listed index) n
+  pub found_at : (get_or index n 0 ≡ 0 → ⊥) → Some (get_or index n 0) ≡ as_found (listed index) n
   found_at h = sym (told ∙ entry_at (get_or index n 0) h)
 
 -- ---- no labels, and one more
@@ -81,7 +80,7 @@ unfolding defined
 not_first l ls n h = by_cases (eqb l.number n) (λ e. let y : true ≡ false = rw e at h in contradiction cc) (λ e. (eqb-false _ _ e, rw e at h))
 
 found-more : (labels : List Label) (n a m : ℕ) → defined labels n ≡ false
-    → as_found (labels ++ (record { number = n; address = a } ∷ [])) m ≡ cond (eqb n m) (At a) (as_found labels m)
+    → as_found (labels ++ (record { number = n; address = a } ∷ [])) m ≡ cond (eqb n m) (Some a) (as_found labels m)
 unfolding as_found defined address_of
 found-more [] n a m h = by_cases (eqb n m) (λ e. simp e) (λ e. simp e)
 found-more (l ∷ ls) n a m h = by_cases (eqb l.number m)
@@ -103,7 +102,7 @@ indexes-more index labels n (suc a) i h p f = record {
     within : n < length index
     within = omega (arith, i.sized)
 
-    missing : as_found labels n ≡ Missing
+    missing : as_found labels n ≡ None
     missing = rw f
 
     vacant : get_or index n 0 ≡ 0
@@ -120,8 +119,8 @@ module _ (a b : List Label) (same : (n : ℕ) → as_found a n ≡ as_found b n)
   told_same : (n : ℕ) → (defined a n ≡ defined b n) × (address_of a n ≡ address_of b n)
   unfolding as_found
   told_same n = by_cases (defined a n)
-      (λ e. let f : as_found a n ≡ At (address_of a n) = rw e in (e ∙ sym (was-at b n (same n) f).0, sym (was-at b n (same n) f).1))
-      (λ e. let f : as_found a n ≡ Missing = rw e in
+      (λ e. let f : as_found a n ≡ Some (address_of a n) = rw e in (e ∙ sym (was-at b n (same n) f).0, sym (was-at b n (same n) f).1))
+      (λ e. let f : as_found a n ≡ None = rw e in
       let g : defined b n ≡ false = was-missing b n (same n) f in (e ∙ sym g, undefined-zero a n e ∙ sym (undefined-zero b n g)))
 
   known_same : (i : I.Item) → known a i ≡ known b i
@@ -162,7 +161,7 @@ module _ {index : List ℕ} {labels : List Label} (i : Indexes index labels) whe
   fault-same memory room at (I.string cs) = refl
   fault-same memory room at (I.global n m) = refl
 
-  pub writes-same : {s : Scan} {memory : List ℕ} {answer : Written} {memory' : List ℕ}
+  pub writes-same : {s : Scan} {memory : List ℕ} {answer : Result (Unit {0}) Faulted} {memory' : List ℕ}
       → WritesAll (listed index) s memory answer memory' → WritesAll labels s memory answer memory'
   writes-same {s} {memory} w = record {
     same = w.same;

@@ -8,7 +8,11 @@ use Rattle.assembler.specs.Words.{in_range, size}
 use Rattle.assembler.specs.declared.Label.{Label}
 use Rattle.assembler.specs.Layout.{noted, Laid, refused, fault, lay}
 use Rattle.assembler.specs.Passes.{item_of, blank, records, listed, Indexes, Table, Notable, Notes, after_ending, laid_by, Lays, Zeros}
-use Rattle.assembler.specs.declared.Placing.TheVariants as P
+use Rattle.std.specs.Prelude.{Result, Ok, Err}
+use Rattle.text.specs.declared.faults.Fault.{Fault}
+use Rattle.text.specs.declared.faults.Fault.TheVariants as F
+use Rattle.text.specs.Faults.{number_of}
+use Rattle.assembler.specs.Passes.{fault_number}
 use Rattle.assembler.proofs.Indexing.{indexes-none, fault-same}
 use Rattle.assembler.proofs.Noting.{no-labels, count-records, may-note}
 use Rattle.assembler.proofs.Faults.{no-fault-fits, no-fault-ranged}
@@ -34,6 +38,38 @@ module _ (memory room at : ℕ) (labels : List Label) (place : ℕ) (i : I.Item)
   unfolding lay
   lay-on e = rw e
 
+-- a fault's number is not 0
+some-number : (f : Fault) → number_of f ≡ 0 → ⊥
+some-number F.SourceTooLong e = omega arith
+some-number F.NoSymbol e = omega arith
+some-number F.Number e = omega arith
+some-number F.Bracket e = omega arith
+some-number F.Unexpected e = omega arith
+some-number F.TooDeep e = omega arith
+some-number F.UnknownName e = omega arith
+some-number F.NameTwice e = omega arith
+some-number F.NoPlace e = omega arith
+some-number F.Constant e = omega arith
+some-number F.Case e = omega arith
+some-number F.NothingToLeave e = omega arith
+some-number F.NoStart e = omega arith
+some-number F.RoomTooShort e = omega arith
+some-number F.TooHigh e = omega arith
+some-number F.Unreadable e = omega arith
+some-number F.LabelTwice e = omega arith
+some-number F.UnknownLabel e = omega arith
+some-number F.OutOfRange e = omega arith
+some-number F.Memory e = omega arith
+some-number F.TableTooShort e = omega arith
+some-number F.Unclosed e = omega arith
+some-number F.Escape e = omega arith
+some-number F.QuotedByte e = omega arith
+some-number F.QuotedLength e = omega arith
+
+no-number : (answer : Result (Unit {0}) Fault) → ((f : Fault) → answer ≡ Err f → ⊥) → fault_number answer ≡ 0
+no-number (Ok u) h = refl
+no-number (Err f) h = absurd (h f refl)
+
 pub record Laying (text : List ℕ) (memory from : ℕ) (table₀ : List ℕ) (place at count : ℕ) (table index : List ℕ) : Type 0 where
   pub same : length table ≡ length table₀
   pub tabled : Table count table
@@ -58,7 +94,7 @@ laying-start text memory from table index h z e = record {
 
 module _ (text : List ℕ) (memory from : ℕ) (table₀ : List ℕ) (place at count : ℕ) (table index : List ℕ)
     (l : Laying text memory from table₀ place at count table index) where
-  pub laying-whole : body 0 place (drop place text) ≡ ends whole → Lays memory (body 0 from (drop from text)) table₀ (P.Placed at) table index
+  pub laying-whole : body 0 place (drop place text) ≡ ends whole → Lays memory (body 0 from (drop from text)) table₀ (Ok at) table index
   unfolding laid_by after_ending lay
   laying-whole e = record {
     count = count;
@@ -69,10 +105,11 @@ module _ (text : List ℕ) (memory from : ℕ) (table₀ : List ℕ) (place at c
     fits = λ d q. let z : at ≡ d = cc in rw z at l.low;
   }
 
-  refusal-lays : (n p : ℕ) → laying memory (length table₀) at (records (take count table)) (body 0 place (drop place text)) ≡ refused n p
-      → Lays memory (body 0 from (drop from text)) table₀ (P.Fault n p) table index
+  refusal-lays : (f : Fault) (p : ℕ)
+      → laying memory (length table₀) at (records (take count table)) (body 0 place (drop place text)) ≡ refused (number_of f) p
+      → Lays memory (body 0 from (drop from text)) table₀ (Err (record { fault = f; place = p })) table index
   unfolding laid_by
-  refusal-lays n p e = record {
+  refusal-lays f p e = record {
     count = count;
     same = l.same;
     answers = sym (l.so_far ∙ e);
@@ -82,28 +119,32 @@ module _ (text : List ℕ) (memory from : ℕ) (table₀ : List ℕ) (place at c
   }
 
   pub laying-not : {p : ℕ} → body 0 place (drop place text) ≡ ends (unreadable p)
-      → Lays memory (body 0 from (drop from text)) table₀ (P.Fault 20 p) table index
+      → Lays memory (body 0 from (drop from text)) table₀ (Err (record { fault = F.Unreadable; place = p })) table index
   unfolding after_ending lay
-  laying-not {p} e = refusal-lays 20 p (rw e)
+  laying-not {p} e = refusal-lays F.Unreadable p (rw e)
 
   -- as many labels in the index as in the table
   pub laying-count : length (listed index) ≡ count
   laying-count = l.indexed.counts ∙ count-records count table l.tabled
 
-  module _ {first : ℕ} {item : Item} {past r : ℕ} (i : Reads text place first item past)
-      (f : r ≡ fault memory (length table₀) at (listed index) (item_of blank item)) where
+  module _ {first : ℕ} {item : Item} {past : ℕ} (answer : Result (Unit {0}) Fault) (i : Reads text place first item past)
+      (f : fault_number answer ≡ fault memory (length table₀) at (listed index) (item_of blank item)) where
     -- the code's fault is the definition's
-    known-fault : fault memory (length table₀) at (records (take count table)) (item_of blank item) ≡ r
+    known-fault : fault memory (length table₀) at (records (take count table)) (item_of blank item) ≡ fault_number answer
     known-fault = sym (f ∙ fault-same l.indexed memory (length table₀) at (item_of blank item))
 
-    fault-is : fault memory (length table₀) at (records (take count table)) i.read ≡ r
+    fault-is : fault memory (length table₀) at (records (take count table)) i.read ≡ fault_number answer
     fault-is = sym (fault-blank memory (length table₀) at (records (take count table)) i.read) ∙ (rw i.same at known-fault)
 
-    pub laying-fault : (r ≡ 0 → ⊥) → Lays memory (body 0 from (drop from text)) table₀ (P.Fault r first) table index
-    laying-fault h = refusal-lays r first (rw i.goes_on_lem (lay-refused memory (length table₀) at (records (take count table)) first i.read
-        (body 0 past (drop past text)) r fault-is h))
+    pub laying-fault : {g : Fault} → answer ≡ Err g
+        → Lays memory (body 0 from (drop from text)) table₀ (Err (record { fault = g; place = first })) table index
+    laying-fault {g} e = refusal-lays g first (rw i.goes_on_lem (lay-refused memory (length table₀) at (records (take count table)) first i.read
+        (body 0 past (drop past text)) (number_of g) (fault-is ∙ rw e) (some-number g)))
 
-    module _ (z : r ≡ 0) where
+    module _ (none : (g : Fault) → answer ≡ Err g → ⊥) where
+      z : fault_number answer ≡ 0
+      z = no-number answer none
+
       pub laying-in-range : in_range (item_of blank item) ≡ true
       laying-in-range = no-fault-ranged memory (length table₀) at (records (take count table)) (item_of blank item) (known-fault ∙ z)
 

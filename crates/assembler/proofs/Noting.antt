@@ -2,7 +2,6 @@
 use Rattle.laws.proofs.Basics.{ℕ, suc, ◌+◌, ◌-◌, ◌*◌, ◌/◌, ◌%◌, ◌<◌, ◌≤◌, ◌≡◌, refl, sym, ap, ◌∙◌, List, [], ◌∷◌, ◌++◌, append_assoc, false, length}
 use Rattle.laws.proofs.Basics.{set, take, replicate, length-set, length-take-le, take-suc-set, set_at, sub-zero, add-one, arith}
 use lib.Arith.{digits_div, digits_mod}
-use Rattle.items.specs.Item as I
 use Rattle.items.specs.declared.Item.{Item}
 use Rattle.items.specs.declared.Item.TheVariants as C
 use Rattle.assembler.specs.declared.Label.{Label}
@@ -58,9 +57,14 @@ note-label at item count table index {n} r e =
     }
 
 -- any other item leaves the table and the index as they are
-pub note-other : (at : ℕ) (item : Item) (i : I.Item) (count : ℕ) (table index : List ℕ) → Notable at item count table index
-    → noted at (records (take count table)) i ≡ records (take count table) → Notes at i count table count table index
-note-other at item i count table index r e = record { same = refl; tabled = r.tabled; notes = sym e; indexed = r.indexed }
+pub note-other : (at : ℕ) (item : Item) (count : ℕ) (table index : List ℕ) → Notable at item count table index
+    → ((n : ℕ) → item ≡ C.Label n → ⊥) → Notes at (item_of blank item) count table count table index
+unfolding item_of noted
+note-other at (C.Label n) count table index r h = absurd (h n refl)
+note-other at (C.Instruction f i b x) count table index r h = record { same = refl; tabled = r.tabled; notes = refl; indexed = r.indexed }
+note-other at (C.Constant x) count table index r h = record { same = refl; tabled = r.tabled; notes = refl; indexed = r.indexed }
+note-other at (C.String n) count table index r h = record { same = refl; tabled = r.tabled; notes = refl; indexed = r.indexed }
+note-other at (C.Global n m) count table index r h = record { same = refl; tabled = r.tabled; notes = refl; indexed = r.indexed }
 
 -- ---- an item without fault may be noted
 

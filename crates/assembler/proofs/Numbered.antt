@@ -10,7 +10,8 @@ use Rattle.assembler.specs.declared.Label.{Label}
 use Rattle.assembler.specs.Layout.{vacant, defined, noted, Laid, laid, refused, on_fault, misplaced, fault, lay, unknowns}
 use Rattle.assembler.specs.Assemble.{Assembly, refuse, accept, on_unknowns, on_ending, on_laid, assembled, numbers, Assembles}
 use Rattle.assembler.specs.Passes.{records, table_of, Gives, AssemblesKeys, Serves, Loads}
-use Rattle.assembler.specs.declared.Assembled.{Assembled}
+use Rattle.std.specs.Prelude.{Result}
+use Rattle.text.specs.declared.Refusal.{Refusal}
 use Rattle.assembler.proofs.Operands.{label-range}
 use Rattle.assembler.proofs.Faults.{laid-first, on-fault-alike, no-fault-ranged, no-fault-placed, label-placed}
 use Rattle.assembler.proofs.Records.{table-within, table-past}
@@ -182,17 +183,17 @@ module _ (text : List ℕ) (memory limit room : ℕ) (r : limit ≤ room) where
 
 -- ---- the keys that serve a table of so many records
 
-pub assembles : {text memory : List ℕ} {labels : List Label} {answer : Assembled} {memory' keys : List ℕ} {labels' : List Label}
+pub assembles : {text memory : List ℕ} {labels : List Label} {answer : Result ℕ Refusal} {memory' keys : List ℕ} {labels' : List Label}
     → Serves (assembled text (length memory) (length labels)) (length labels) answer memory' keys → labels' ≡ table_of keys (length labels) → Assembles
     text memory labels answer memory' labels'
 assembles s e = record { answers = s.answers; tells = ap numbers s.answers; fills = s.fills; tables = e ∙ s.tables }
 
-pub loads : {text memory : List ℕ} (room : ℕ) {labels : List Label} {answer : Assembled} {memory' : List ℕ} {labels' : List Label}
+pub loads : {text memory : List ℕ} (room : ℕ) {labels : List Label} {answer : Result ℕ Refusal} {memory' : List ℕ} {labels' : List Label}
     → room ≡ length labels → Assembles text memory labels answer memory' labels' → Loads (assembled text (length memory) room) answer memory'
 loads {text} {memory} room {labels} {answer} {memory'} e a = subst (λ (n : ℕ). Loads (assembled text (length memory) n) answer memory') (sym e)
     (record { answers = a.answers; tells = a.tells; fills = a.fills })
 
-module _ (text memory : List ℕ) {answer : Assembled} {memory' : List ℕ} where
+module _ (text memory : List ℕ) {answer : Result ℕ Refusal} {memory' : List ℕ} where
   pub serves-within : (keys : List ℕ) (room : ℕ) → length keys ≡ 32767 → room < 32767 → {part part' : List ℕ} (rest : List ℕ)
       → part ≡ take (room - 0) keys → length part' ≡ length part
       → AssemblesKeys text memory part answer memory' part' → Serves (assembled text (length memory) room) room answer memory' (part' ++ rest)

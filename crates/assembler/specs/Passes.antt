@@ -1,8 +1,12 @@
 -- What the parts of `assemble` give: the code's items as the definitions have them, a table's keys and an index as records, and
 -- what each pass answers and leaves.
 use Rattle.std.specs.Prelude.{ℕ, zero, suc, ◌+◌, ◌-◌, ◌/◌, ◌%◌, ◌<◌, ◌≤◌, true, false, cond, ◌≡◌, List, [], ◌∷◌, ◌++◌, map, length, get_or, set}
-use Rattle.std.specs.Prelude.{replicate, take, drop, eqb, leb, ltb}
+use Rattle.std.specs.Prelude.{replicate, take, drop, leb, ltb, Option, Some, None, Result, Ok, Err}
 use Rattle.std.proofs.lemmas.List.Edits.{sets}
+use Rattle.text.specs.declared.Refusal.{Refusal}
+use Rattle.text.specs.declared.faults.Fault.{Fault}
+use Rattle.text.specs.declared.faults.Fault.TheVariants as F
+use Rattle.text.specs.Faults.{number_of}
 use Rattle.text.specs.Quoted.{closed, characters_of, quoted}
 use Rattle.items.specs.Item as I
 use Rattle.items.specs.Scan.{Ending, whole, unreadable, Scan}
@@ -14,17 +18,9 @@ use Rattle.items.specs.declared.Item.{Item}
 use Rattle.items.specs.declared.Item.TheVariants as C
 use Rattle.assembler.specs.Words.{in_range, signed, size, words}
 use Rattle.assembler.specs.Layout.{defined, address_of, noted, Laid, laid, refused, lay, known, unknowns}
-use Rattle.assembler.specs.Assemble.{Assembly, assembled, numbers}
+use Rattle.assembler.specs.Assemble.{Assembly, refuse, assembled, numbers}
 use Rattle.assembler.specs.declared.Label.{Label}
-use Rattle.assembler.specs.declared.Found.{Found}
-use Rattle.assembler.specs.declared.Found.TheVariants.{At, Missing}
-use Rattle.assembler.specs.declared.Placing.{Placing}
-use Rattle.assembler.specs.declared.Placing.TheVariants as P
-use Rattle.assembler.specs.declared.Step.{Step}
-use Rattle.assembler.specs.declared.Step.TheVariants as S
-use Rattle.assembler.specs.declared.Written.{Written}
-use Rattle.assembler.specs.declared.Written.TheVariants as W
-use Rattle.assembler.specs.declared.Assembled.{Assembled}
+use Rattle.assembler.specs.declared.Faulted.{Faulted}
 
 -- the code's items as the definitions' ones; a string's characters, which the code does not hold, are given by their number
 unfoldable pub operand_of : Operand → I.Operand
@@ -54,8 +50,8 @@ record_of key = record { number = key / 65536; address = key % 65536 }
 unfoldable pub records : List ℕ → List Label
 records keys = map record_of keys
 
-unfoldable pub as_found : List Label → ℕ → Found
-as_found labels n = cond (defined labels n) (At (address_of labels n)) Missing
+unfoldable pub as_found : List Label → ℕ → Option ℕ
+as_found labels n = cond (defined labels n) (Some (address_of labels n)) None
 
 -- the records that an index stands for, by number: it has the address of each number from `n` on, and 0 for none
 unfoldable pub listed_from : (n : ℕ) → List ℕ → List Label
@@ -72,16 +68,17 @@ pub record Indexes (index : List ℕ) (labels : List Label) : Type 0 where
   pub counts : length (listed index) ≡ length labels
   pub tells : (n : ℕ) → as_found (listed index) n ≡ as_found labels n
 
--- what a record with the number looked for says
-abbrev pub told_by : Label → Found
-told_by label = cond (eqb label.number 0) Missing (At label.address)
-
 -- the two causes of `misplaced`
 abbrev pub label_fault : (room : ℕ) → List Label → ℕ → ℕ
 label_fault room labels n = cond (defined labels n) 21 (cond (leb room (length labels)) 25 0)
 
 abbrev pub beyond : (memory at words : ℕ) → ℕ
 beyond memory at words = cond (ltb memory (at + words)) 24 0
+
+-- document 01's number of what the code finds: 0 for no fault
+abbrev pub fault_number : Result (Unit {0}) Fault → ℕ
+fault_number (Ok u) = 0
+fault_number (Err f) = number_of f
 
 -- ---- the first pass
 
@@ -111,24 +108,24 @@ after_ending (unreadable place) (laid labels end) = refused 20 place
 after_ending (unreadable place) (refused number first) = refused number first
 
 -- what the pass's answer and the labels say
-unfoldable pub laid_by : Placing → List Label → Laid
-laid_by (P.Placed end) labels = laid labels end
-laid_by (P.Fault number place) labels = refused number place
+unfoldable pub laid_by : Result ℕ Faulted → List Label → Laid
+laid_by (Ok end) labels = laid labels end
+laid_by (Err f) labels = refused (number_of f.fault) f.place
 
 -- `count` labels are in the table, and the index has the same ones
-pub record Lays (memory : ℕ) (s : Scan) (table : List ℕ) (answer : Placing) (table' index' : List ℕ) : Type 0 where
+pub record Lays (memory : ℕ) (s : Scan) (table : List ℕ) (answer : Result ℕ Faulted) (table' index' : List ℕ) : Type 0 where
   pub count : ℕ
   pub same : length table' ≡ length table
   pub answers : laid_by answer (records (take count table')) ≡ after_ending s.ending (lay memory (length table) 416 [] s.items)
   pub tabled : Table count table'
   pub indexed : Indexes index' (records (take count table'))
-  pub fits : (end : ℕ) → answer ≡ P.Placed end → end ≤ memory
+  pub fits : (end : ℕ) → answer ≡ Ok end → end ≤ memory
 
 -- ---- the second pass
 
 -- an operand's word, if its label is known
-unfoldable pub value_of : List Label → I.Operand → Found
-value_of labels (I.number minus size) = At (signed minus size)
+unfoldable pub value_of : List Label → I.Operand → Option ℕ
+value_of labels (I.number minus size) = Some (signed minus size)
 value_of labels (I.address n) = as_found labels n
 
 -- the memory after an item that stands at an address
@@ -158,9 +155,9 @@ pub record Writable (i : I.Item) (at : ℕ) (memory : List ℕ) : Type 0 where
   pub fits : at + size i ≤ length memory
   pub globals : 416 ≤ length memory
 
-pub record Writes (labels : List Label) (i : I.Item) (at : ℕ) (memory : List ℕ) (answer : Step) (memory' : List ℕ) : Type 0 where
+pub record Writes (labels : List Label) (i : I.Item) (at : ℕ) (memory : List ℕ) (answer : Option ℕ) (memory' : List ℕ) : Type 0 where
   pub same : length memory' ≡ length memory
-  pub answers : answer ≡ cond (known labels i) (S.To (at + size i)) S.Unknown
+  pub answers : answer ≡ cond (known labels i) (Some (at + size i)) None
   pub writes : known labels i ≡ true → memory' ≡ put labels at memory i
 
 -- the characters between double quotes from a place on
@@ -189,14 +186,14 @@ unfoldable pub FitsAll : (memory at : ℕ) → List I.Placed → Type 0
 FitsAll memory at [] = Unit {0}
 FitsAll memory at (p ∷ ps) = (in_range p.item ≡ true) × (at + size p.item ≤ memory) × FitsAll memory (at + size p.item) ps
 
-unfoldable pub as_written : List ℕ → Written
-as_written [] = W.Whole
-as_written (place ∷ places) = W.Unknown place
+unfoldable pub as_written : List ℕ → Result (Unit {0}) Faulted
+as_written [] = Ok tt
+as_written (place ∷ places) = Err (record { fault = F.UnknownLabel; place = place })
 
-pub record WritesAll (labels : List Label) (s : Scan) (memory : List ℕ) (answer : Written) (memory' : List ℕ) : Type 0 where
+pub record WritesAll (labels : List Label) (s : Scan) (memory : List ℕ) (answer : Result (Unit {0}) Faulted) (memory' : List ℕ) : Type 0 where
   pub same : length memory' ≡ length memory
   pub answers : answer ≡ as_written (unknowns labels s.items)
-  pub writes : answer ≡ W.Whole → memory' ≡ filled labels 416 memory s.items
+  pub writes : answer ≡ Ok tt → memory' ≡ filled labels 416 memory s.items
 
 -- ---- both
 
@@ -210,13 +207,19 @@ pub record Ready (memory table : List ℕ) : Type 0 where
   pub memory_zeros : Zeros memory
   pub table_zeros : Zeros table
 
-pub record Gives (a : Assembly) (answer : Assembled) (memory table : List ℕ) : Type 0 where
+pub record Gives (a : Assembly) (answer : Result ℕ Refusal) (memory table : List ℕ) : Type 0 where
   pub answers : answer ≡ a.answer
   pub fills : memory ≡ a.memory
   pub tables : records table ≡ a.table
 
+-- what both passes give of an assembly: all of it, or the fault that it is refused for
+abbrev pub Passes : (text : List ℕ) (memory room : ℕ) → Assembly → Result ℕ Faulted → (memory' table' : List ℕ) → Type 0
+Passes text memory room a (Ok end) memory' table' = Gives a (Ok end) memory' table'
+Passes text memory room a (Err f) memory' table' =
+    (length memory' ≡ memory) × (length table' ≡ room) × (a ≡ refuse text memory room (number_of f.fault) f.place)
+
 -- the whole on keys
-pub record AssemblesKeys (text memory table : List ℕ) (answer : Assembled) (memory' table' : List ℕ) : Type 0 where
+pub record AssemblesKeys (text memory table : List ℕ) (answer : Result ℕ Refusal) (memory' table' : List ℕ) : Type 0 where
   pub gives : Gives (assembled text (length memory) (length table)) answer memory' table'
 
 -- ---- the lent records
@@ -227,13 +230,13 @@ table_of keys zero = []
 table_of keys (suc n) = table_of keys n ++ (record_of (get_or keys n 0) ∷ [])
 
 -- the passes' answer for a table of so many records, with the keys to fill it from
-pub record Serves (a : Assembly) (room : ℕ) (answer : Assembled) (memory keys : List ℕ) : Type 0 where
+pub record Serves (a : Assembly) (room : ℕ) (answer : Result ℕ Refusal) (memory keys : List ℕ) : Type 0 where
   pub answers : answer ≡ a.answer
   pub fills : memory ≡ a.memory
   pub tables : table_of keys room ≡ a.table
 
 -- what a program is given that needs no table
-pub record Loads (a : Assembly) (answer : Assembled) (memory : List ℕ) : Type 0 where
+pub record Loads (a : Assembly) (answer : Result ℕ Refusal) (memory : List ℕ) : Type 0 where
   pub answers : answer ≡ a.answer
   pub tells : numbers answer ≡ numbers a.answer
   pub fills : memory ≡ a.memory

@@ -11,16 +11,18 @@ ghost use Rattle.std.proofs.lemmas.List.Edits.{sets};
 ghost use Rattle.items.specs.Item as I;
 ghost use Rattle.items.specs.Scan.{body};
 ghost use Rattle.assembler.specs.Words.{label_in_range, operand_in_range, in_range, signed, short, size, indirect_bit, base_bit};
+ghost use Rattle.text.specs.Faults.{number_of};
+ghost use Rattle.text.specs.Line.{refusal};
 ghost use Rattle.text.specs.Packed.{pairs};
 ghost use Rattle.assembler.specs.Layout.{fault, lay};
-ghost use Rattle.assembler.specs.Assemble.{Assembles, assembled, looked_up, refuse, on_laid, start};
+ghost use Rattle.assembler.specs.Assemble.{Assembles, assembled, looked_up, on_laid, start};
 ghost use Rattle.words.specs.Globals.{no_globals};
 ghost use Rattle.assembler.specs.Passes.{operand_of, base_of, item_of, blank, as_found, listed, label_fault, beyond, Notable, Notes, Lays, value_of};
-ghost use Rattle.assembler.specs.Passes.{Writable, Writes, letters, Spelling, item_at, Spelled, FitsAll, WritesAll, Zeros, Ready, Gives};
-ghost use Rattle.assembler.specs.Passes.{AssemblesKeys, record_of, table_of, Serves, Loads, told_by};
+ghost use Rattle.assembler.specs.Passes.{Writable, Writes, letters, Spelling, item_at, Spelled, FitsAll, WritesAll, Zeros, Ready, Passes};
+ghost use Rattle.assembler.specs.Passes.{AssemblesKeys, record_of, table_of, Serves, Loads, fault_number};
 
 use items::{Base, Item, Next, Operand, Start};
-use text::{Character, Refusal};
+use text::{Character, Fault, Refusal};
 
 // A record of the label table.
 #[repr(C)]
@@ -30,84 +32,43 @@ pub struct Label {
     pub address: u16,
 }
 
+// Document 01's fault of an item, and the item's place.
 #[derive(Drop)]
-pub enum Assembled {
-    Accepted(u16),
-    Refused(Refusal),
+struct Faulted {
+    fault: Fault,
+    place: usize,
 }
 
-// A label's address, if the table has it; or an operand's word.
-#[derive(Drop)]
-pub enum Found {
-    At(u16),
-    Missing,
-}
+// The first word of the program.
+const FIRST: usize = 416;
 
-// What the first pass gives: the address past the last item, or a refusal's number and place.
-#[derive(Drop)]
-enum Placing {
-    Placed(usize),
-    Fault(u16, usize),
-}
+// The entries of an index: the label numbers, and 0, which is no label's.
+const NUMBERS: usize = 32768;
 
-// What writing an item gives: the address past it, or that its label is unknown.
-#[derive(Drop)]
-enum Step {
-    To(usize),
-    Unknown,
-}
+// The keys of a table that has room for every label.
+const LABELS: usize = 32767;
 
-// What the second pass gives: the first item whose label is unknown, if there is one.
-#[derive(Drop)]
-enum Written {
-    Whole,
-    Unknown(usize),
-}
+// An operand below it is short; in an instruction's word it says that the operand is the next word.
+const D: u16 = 512;
 
-fn clear_words(memory: &mut [u16])
-    ensures { memory.new ≡ replicate (length memory.old) 0 }
-{
-    let mut i: usize = 0;
-    while i < memory.len() {
-        memory[i] = 0;
-        i += 1;
-    }
-}
-
-fn clear_labels(labels: &mut [u32])
-    ensures { labels.new ≡ replicate (length labels.old) 0 }
-{
-    let mut i: usize = 0;
-    while i < labels.len() {
-        labels[i] = 0;
-        i += 1;
-    }
-}
-
-// The index of no labels: for each number the label's address, or 0, which is no label's.
-fn no_addresses() -> [u16; 32768]
-    ensures { result ≡ replicate 32768 0 }
-{
-    [0u16; 32768]
-}
-
-fn find(index: &[u16; 32768], number: u32) -> Found
+// A label's address: 0 is no label's.
+fn find(index: &[u16; NUMBERS], number: u32) -> Option<u16>
     requires { label_in_range number ≡ true }
     ensures { result ≡ as_found (listed index.now) number }
 {
-    let address = index[number as usize];
-    if address == 0 {
-        return Found::Missing;
+    match index[number as usize] {
+        0 => None,
+        address => Some(address),
     }
-    Found::At(address)
 }
 
 fn label_in_range(number: u32) -> bool
     ensures { result ≡ label_in_range number }
 {
-    if 1 <= number { number <= 32767 } else { false }
+    (1..=32767).contains(&number)
 }
 
+#[tactic(auto, unfolding(crate::specs::Words::operand_in_range, crate::specs::Passes::operand_of))]
 fn operand_in_range(x: Operand) -> bool
     ensures { result ≡ operand_in_range (operand_of x) }
 {
@@ -117,15 +78,15 @@ fn operand_in_range(x: Operand) -> bool
     }
 }
 
+#[tactic(auto, unfolding(crate::specs::Words::in_range, crate::specs::Passes::item_of))]
 fn in_range(item: Item) -> bool
     ensures { result ≡ in_range (item_of blank item) }
 {
     match item {
         Item::Label(number) => label_in_range(number),
-        Item::Instruction(_, _, _, x) => operand_in_range(x),
-        Item::Constant(x) => operand_in_range(x),
+        Item::Instruction(_, _, _, x) | Item::Constant(x) => operand_in_range(x),
         Item::String(_) => true,
-        Item::Global(n, m) => if n <= 399 { label_in_range(m) } else { false },
+        Item::Global(n, m) => n <= 399 && label_in_range(m),
     }
 }
 
@@ -141,75 +102,91 @@ fn signed(minus: bool, size: u32) -> u16
     }
 }
 
+#[tactic(auto, unfolding(crate::specs::Words::short, crate::specs::Words::operand_in_range, crate::specs::Passes::operand_of))]
 fn short(x: Operand) -> bool
     requires { operand_in_range (operand_of x) ≡ true }
     ensures { result ≡ short (operand_of x) }
 {
     match x {
-        Operand::Number(minus, size) => signed(minus, size) < 512,
+        Operand::Number(minus, size) => signed(minus, size) < D,
         Operand::Address(_) => false,
     }
 }
 
 // The number of words that an item makes.
+#[tactic(auto, unfolding(crate::specs::Words::size, crate::specs::Words::in_range, crate::specs::Passes::item_of))]
 fn size(item: Item) -> usize
     requires { in_range (item_of blank item) ≡ true }
     ensures { result ≡ size (item_of blank item) }
 {
     match item {
-        Item::Label(_) => 0,
+        Item::Label(_) | Item::Global(_, _) => 0,
         Item::Instruction(_, _, _, x) => if short(x) { 1 } else { 2 },
         Item::Constant(_) => 1,
         Item::String(length) => length / 2 + 1,
-        Item::Global(_, _) => 0,
     }
 }
 
 // A label twice, or one for which there is no record.
-fn label_fault(room: usize, index: &[u16; 32768], count: usize, number: u32) -> u16
+#[tactic(auto, unfolding(crate::specs::Passes::as_found))]
+fn label_fault(room: usize, index: &[u16; NUMBERS], count: usize, number: u32) -> Result<(), Fault>
     requires { (length (listed index.now) ≡ count) × (label_in_range number ≡ true) }
-    ensures { result ≡ label_fault room (listed index.now) number }
+    ensures { fault_number result ≡ label_fault room (listed index.now) number }
 {
-    match find(index, number) {
-        Found::At(_) => 21,
-        Found::Missing => if room <= count { 25 } else { 0 },
+    if find(index, number).is_some() {
+        return Err(Fault::LabelTwice);
     }
+    if room <= count {
+        return Err(Fault::TableTooShort);
+    }
+    Ok(())
 }
 
 // Whether some words from an address on reach past the memory.
-fn beyond(memory: usize, at: usize, words: usize) -> u16
+fn beyond(memory: usize, at: usize, words: usize) -> Result<(), Fault>
     requires { at ≤ memory }
-    ensures { result ≡ beyond memory at words }
+    ensures { fault_number result ≡ beyond memory at words }
 {
-    if memory - at < words { 24 } else { 0 }
+    if memory - at < words {
+        Err(Fault::Memory)
+    } else {
+        Ok(())
+    }
 }
 
-// The refusal of an item that is to stand at an address, after the labels so far; 0 for none.
+// The fault of an item that is to stand at an address, after the labels so far.
+#[tactic(auto, unfolding(crate::specs::Layout::fault, crate::specs::Layout::misplaced, crate::specs::Words::in_range, crate::specs::Passes::item_of))]
 fn fault(
     memory: usize,
     room: usize,
-    index: &[u16; 32768],
+    index: &[u16; NUMBERS],
     count: usize,
     at: usize,
     item: Item,
-) -> u16
+) -> Result<(), Fault>
     requires { (length (listed index.now) ≡ count) × (at ≤ memory) }
-    ensures { result ≡ fault memory room at (listed index.now) (item_of blank item) }
+    ensures { fault_number result ≡ fault memory room at (listed index.now) (item_of blank item) }
 {
     if !in_range(item) {
-        return 23;
+        return Err(Fault::OutOfRange);
     }
     match item {
         Item::Label(number) => label_fault(room, index, count, number),
-        Item::Instruction(_, _, _, _) => beyond(memory, at, size(item)),
-        Item::Constant(_) => beyond(memory, at, size(item)),
-        Item::String(_) => beyond(memory, at, size(item)),
-        Item::Global(_, _) => 0,
+        Item::Instruction(_, _, _, _) | Item::Constant(_) | Item::String(_) => {
+            beyond(memory, at, size(item))
+        }
+        Item::Global(_, _) => Ok(()),
     }
 }
 
 // Gives a label its record and its entry in the index, and the number of records then.
-fn note(labels: &mut [u32], index: &mut [u16; 32768], count: usize, at: usize, item: Item) -> usize
+fn note(
+    labels: &mut [u32],
+    index: &mut [u16; NUMBERS],
+    count: usize,
+    at: usize,
+    item: Item,
+) -> usize
     requires { Notable at item count labels.old index.old }
     ensures { Notes at (item_of blank item) count labels.old result labels.new index.new }
 {
@@ -219,41 +196,43 @@ fn note(labels: &mut [u32], index: &mut [u16; 32768], count: usize, at: usize, i
             labels[count] = number * 65536 + at as u32;
             count + 1
         }
-        Item::Instruction(_, _, _, _) => count,
-        Item::Constant(_) => count,
-        Item::String(_) => count,
-        Item::Global(_, _) => count,
+        _ => count,
     }
 }
 
-// The first pass: each label into the table and into the index, and the first refusal, undefined labels apart.
+// The first pass: each label into the table and into the index, and the first fault, undefined labels apart; then the
+// address past the last item.
 fn lay_out(
     text: &[u8],
     from: usize,
     memory: usize,
     labels: &mut [u32],
-    index: &mut [u16; 32768],
-) -> Placing
+    index: &mut [u16; NUMBERS],
+) -> Result<usize, Faulted>
     requires { (416 ≤ memory) × (memory ≤ 32768) × Zeros labels.old × (index.old ≡ replicate 32768 0) }
     ensures { Lays memory (body 0 from (drop from text.now)) labels.old result labels.new index.new }
 {
     let room = labels.len();
     let mut place = from;
-    let mut at: usize = 416;
+    let mut at = FIRST;
     let mut count: usize = 0;
     loop {
-        let next = items::next_in(text, place);
-        match next {
+        match items::next_in(text, place) {
             Next::Whole => {
-                return Placing::Placed(at);
+                return Ok(at);
             }
-            Next::Unreadable(first) => {
-                return Placing::Fault(20, first);
+            Next::Unreadable(place) => {
+                return Err(Faulted {
+                    fault: Fault::Unreadable,
+                    place,
+                });
             }
             Next::One(first, item, past) => {
-                let number = fault(memory, room, index, count, at, item);
-                if number != 0 {
-                    return Placing::Fault(number, first);
+                if let Err(fault) = fault(memory, room, index, count, at, item) {
+                    return Err(Faulted {
+                        fault,
+                        place: first,
+                    });
                 }
                 count = note(labels, index, count, at, item);
                 at += size(item);
@@ -264,12 +243,13 @@ fn lay_out(
 }
 
 // An operand's word, if its label is known.
-fn value(index: &[u16; 32768], x: Operand) -> Found
+#[tactic(auto, unfolding(crate::specs::Passes::value_of, crate::specs::Words::operand_in_range, crate::specs::Passes::operand_of))]
+fn value(index: &[u16; NUMBERS], x: Operand) -> Option<u16>
     requires { operand_in_range (operand_of x) ≡ true }
     ensures { result ≡ value_of (listed index.now) (operand_of x) }
 {
     match x {
-        Operand::Number(minus, size) => Found::At(signed(minus, size)),
+        Operand::Number(minus, size) => Some(signed(minus, size)),
         Operand::Address(number) => find(index, number),
     }
 }
@@ -280,6 +260,7 @@ fn indirect_bit(indirect: bool) -> u16
     if indirect { 4096 } else { 0 }
 }
 
+#[tactic(auto, unfolding(crate::specs::Passes::base_of))]
 fn base_bit(base: Base) -> u16
     ensures { (result ≡ base_bit (base_of base)) × (result ≤ 2048) }
 {
@@ -301,64 +282,52 @@ fn head(function: u16, indirect: bool, base: Base) -> u16
 fn write_instruction(
     memory: &mut [u16],
     at: usize,
-    index: &[u16; 32768],
+    index: &[u16; NUMBERS],
     function: u16,
     indirect: bool,
     base: Base,
     x: Operand,
-) -> Step
+) -> Option<usize>
     requires { Writable (I.instruction function indirect (base_of base) (operand_of x)) at memory.old }
     ensures { Writes (listed index.now) (I.instruction function indirect (base_of base) (operand_of x)) at memory.old
         result memory.new }
 {
     let word = head(function, indirect, base);
-    let found = value(index, x);
-    match found {
-        Found::Missing => Step::Unknown,
-        Found::At(operand) => {
-            if short(x) {
-                memory[at] = word + operand;
-                return Step::To(at + 1);
-            }
-            memory[at] = word + 512;
-            memory[at + 1] = operand;
-            Step::To(at + 2)
-        }
+    let operand = value(index, x)?;
+    if short(x) {
+        memory[at] = word + operand;
+        return Some(at + 1);
     }
+    memory[at] = word + D;
+    memory[at + 1] = operand;
+    Some(at + 2)
 }
 
-fn write_constant(memory: &mut [u16], at: usize, index: &[u16; 32768], x: Operand) -> Step
+fn write_constant(
+    memory: &mut [u16],
+    at: usize,
+    index: &[u16; NUMBERS],
+    x: Operand,
+) -> Option<usize>
     requires { Writable (I.constant (operand_of x)) at memory.old }
     ensures { Writes (listed index.now) (I.constant (operand_of x)) at memory.old result memory.new }
 {
-    let found = value(index, x);
-    match found {
-        Found::Missing => Step::Unknown,
-        Found::At(word) => {
-            memory[at] = word;
-            Step::To(at + 1)
-        }
-    }
+    memory[at] = value(index, x)?;
+    Some(at + 1)
 }
 
 fn write_global(
     memory: &mut [u16],
     at: usize,
-    index: &[u16; 32768],
+    index: &[u16; NUMBERS],
     global: u32,
     number: u32,
-) -> Step
+) -> Option<usize>
     requires { Writable (I.global global number) at memory.old }
     ensures { Writes (listed index.now) (I.global global number) at memory.old result memory.new }
 {
-    let found = find(index, number);
-    match found {
-        Found::Missing => Step::Unknown,
-        Found::At(address) => {
-            memory[16 + global as usize] = address;
-            Step::To(at)
-        }
-    }
+    memory[16 + global as usize] = find(index, number)?;
+    Some(at)
 }
 
 // Two bytes of a string as a word.
@@ -380,10 +349,7 @@ fn write_string(memory: &mut [u16], at: usize, text: &[u8], from: usize, first: 
     loop {
         let one = text::character_at(text, place, b'"');
         match one {
-            Character::Ended => {
-                return;
-            }
-            Character::Mistake(_) => {
+            Character::Ended | Character::Mistake(_) => {
                 return;
             }
             Character::Closing => {
@@ -397,13 +363,7 @@ fn write_string(memory: &mut [u16], at: usize, text: &[u8], from: usize, first: 
         }
         let two = text::character_at(text, place, b'"');
         match two {
-            Character::Ended => {
-                return;
-            }
-            Character::Mistake(_) => {
-                return;
-            }
-            Character::Closing => {
+            Character::Ended | Character::Mistake(_) | Character::Closing => {
                 return;
             }
             Character::Is(next, width) => {
@@ -421,59 +381,59 @@ fn wide(byte: u8) -> u16
     byte as u16
 }
 
+#[tactic(auto, unfolding(crate::specs::Passes::item_of))]
 fn write_item(
     memory: &mut [u16],
     at: usize,
-    index: &[u16; 32768],
+    index: &[u16; NUMBERS],
     text: &[u8],
     place: usize,
     item: Item,
-) -> Step
+) -> Option<usize>
     requires { Writable (item_at text.now place item) at memory.old × Spelled text.now place item }
     ensures { Writes (listed index.now) (item_at text.now place item) at memory.old result memory.new }
 {
     match item {
-        Item::Label(_) => Step::To(at),
+        Item::Label(_) => Some(at),
         Item::Instruction(function, indirect, base, x) => write_instruction(
             memory, at, index, function, indirect, base, x,
         ),
         Item::Constant(x) => write_constant(memory, at, index, x),
         Item::String(length) => {
             write_string(memory, at, text, place + 2, length as u16);
-            Step::To(at + (length / 2 + 1))
+            Some(at + (length / 2 + 1))
         }
         Item::Global(global, number) => write_global(memory, at, index, global, number),
     }
 }
 
 // The second pass: the words of every item, up to one whose label is unknown.
-fn write_items(memory: &mut [u16], index: &[u16; 32768], text: &[u8], from: usize) -> Written
+fn write_items(
+    memory: &mut [u16],
+    index: &[u16; NUMBERS],
+    text: &[u8],
+    from: usize,
+) -> Result<(), Faulted>
     requires { (416 ≤ length memory.old) × FitsAll (length memory.old) 416 (body 0 from (drop from text.now)).items }
     ensures { WritesAll (listed index.now) (body 0 from (drop from text.now)) memory.old
         result memory.new }
 {
     let mut place = from;
-    let mut at: usize = 416;
+    let mut at = FIRST;
     loop {
-        let next = items::next_in(text, place);
-        match next {
-            Next::Whole => {
-                return Written::Whole;
-            }
-            Next::Unreadable(_) => {
-                return Written::Whole;
+        match items::next_in(text, place) {
+            Next::Whole | Next::Unreadable(_) => {
+                return Ok(());
             }
             Next::One(first, item, past) => {
-                let step = write_item(memory, at, index, text, first, item);
-                match step {
-                    Step::Unknown => {
-                        return Written::Unknown(first);
-                    }
-                    Step::To(address) => {
-                        at = address;
-                        place = past;
-                    }
-                }
+                let Some(address) = write_item(memory, at, index, text, first, item) else {
+                    return Err(Faulted {
+                        fault: Fault::UnknownLabel,
+                        place: first,
+                    });
+                };
+                at = address;
+                place = past;
             }
         }
     }
@@ -497,78 +457,82 @@ fn write_start(memory: &mut [u16])
 }
 
 // A refusal leaves zeros in the memory and in the table.
-fn refuse(
-    text: &[u8],
-    memory: &mut [u16],
-    labels: &mut [u32],
-    number: u16,
-    place: usize,
-) -> Assembled
-    ensures { Gives (refuse text.now (length memory.old) (length labels.old) number place) result
-        memory.new labels.new }
+fn refuse(text: &[u8], memory: &mut [u16], labels: &mut [u32], faulted: Faulted) -> Refusal
+    ensures refusal { result ≡ refusal text.now (number_of faulted.fault) faulted.place }
+    ensures no_words { memory.new ≡ replicate (length memory.old) 0 }
+    ensures no_labels { labels.new ≡ replicate (length labels.old) 0 }
 {
-    clear_words(memory);
-    clear_labels(labels);
-    let refusal = text::refuse(text, number, place);
-    Assembled::Refused(refusal)
+    memory.fill(0);
+    labels.fill(0);
+    text::refuse(text, faulted.fault.number(), faulted.place)
 }
 
 // Both passes, from past `$` on.
-fn assemble_from(text: &[u8], from: usize, memory: &mut [u16], labels: &mut [u32]) -> Assembled
+fn passes_from(
+    text: &[u8],
+    from: usize,
+    memory: &mut [u16],
+    labels: &mut [u32],
+) -> Result<u16, Faulted>
     requires { Ready memory.old labels.old }
-    ensures { Gives (on_laid text.now (length memory.old) (length labels.old)
+    ensures { Passes text.now (length memory.old) (length labels.old) (on_laid text.now (length memory.old) (length labels.old)
         (lay (length memory.old) (length labels.old) 416 [] (body 0 from (drop from text.now)).items)
         (body 0 from (drop from text.now))) result memory.new labels.new }
 {
-    let mut index = no_addresses();
-    let layout = lay_out(text, from, memory.len(), labels, &mut index);
-    match layout {
-        Placing::Fault(number, place) => refuse(text, memory, labels, number, place),
-        Placing::Placed(end) => {
-            write_start(memory);
-            let written = write_items(memory, &index, text, from);
-            match written {
-                Written::Unknown(place) => refuse(text, memory, labels, 22, place),
-                Written::Whole => Assembled::Accepted(end as u16),
-            }
-        }
+    let mut index = [0u16; NUMBERS];
+    let end = lay_out(text, from, memory.len(), labels, &mut index)?;
+    write_start(memory);
+    write_items(memory, &index, text, from)?;
+    Ok(end as u16)
+}
+
+// The first stack word, or the fault that the text is refused for.
+fn passes(text: &[u8], memory: &mut [u16], labels: &mut [u32]) -> Result<u16, Faulted>
+    requires { Zeros memory.old × Zeros labels.old }
+    ensures { Passes text.now (length memory.old) (length labels.old) (assembled text.now (length memory.old) (length labels.old))
+        result memory.new labels.new }
+{
+    if memory.len() < 512 || memory.len() > 32768 {
+        return Err(Faulted {
+            fault: Fault::Memory,
+            place: 0,
+        });
+    }
+    match items::start_in(text) {
+        Start::Unreadable(place) => Err(Faulted {
+            fault: Fault::Unreadable,
+            place,
+        }),
+        Start::From(from) => passes_from(text, from, memory, labels),
     }
 }
 
 // With a table of keys.
-fn assemble_keys(text: &[u8], memory: &mut [u16], labels: &mut [u32]) -> Assembled
+fn assemble_keys(text: &[u8], memory: &mut [u16], labels: &mut [u32]) -> Result<u16, Refusal>
     ensures { AssemblesKeys text.now memory.old labels.old result memory.new labels.new }
 {
-    clear_words(memory);
-    clear_labels(labels);
-    if memory.len() < 512 {
-        return refuse(text, memory, labels, 24, 0);
-    }
-    if memory.len() > 32768 {
-        return refuse(text, memory, labels, 24, 0);
-    }
-    let first = items::start_in(text);
-    match first {
-        Start::Unreadable(place) => refuse(text, memory, labels, 20, place),
-        Start::From(from) => assemble_from(text, from, memory, labels),
+    memory.fill(0);
+    labels.fill(0);
+    match passes(text, memory, labels) {
+        Ok(end) => Ok(end),
+        Err(faulted) => Err(refuse(text, memory, labels, faulted)),
     }
 }
 
 // With as many of the keys as a table of `room` records needs: there are no more than 32,767 labels.
-fn assemble_for(text: &[u8], memory: &mut [u16], keys: &mut [u32], room: usize) -> Assembled
+fn assemble_for(
+    text: &[u8],
+    memory: &mut [u16],
+    keys: &mut [u32],
+    room: usize,
+) -> Result<u16, Refusal>
     requires { length keys.old ≡ 32767 }
     ensures { Serves (assembled text.now (length memory.old) room) room result memory.new keys.new }
 {
-    if room < 32767 {
+    if room < LABELS {
         return assemble_keys(text, memory, &mut keys[0..room]);
     }
     assemble_keys(text, memory, keys)
-}
-
-fn no_keys() -> [u32; 32767]
-    ensures { 32767 ≡ length result }
-{
-    [0; 32767]
 }
 
 fn record_of(key: u32) -> Label
@@ -601,59 +565,38 @@ fn fill(labels: &mut [Label], keys: &[u32])
     }
 }
 
-// What a record with the number looked for says. Vacant records have the number 0, which is no label's.
-fn told(label: Label) -> Found
-    ensures { result ≡ told_by label }
-{
-    if label.number == 0 {
-        return Found::Missing;
-    }
-    Found::At(label.address)
-}
-
-fn missing() -> Found
-    ensures { result ≡ Found.Missing }
-{
-    Found::Missing
-}
-
-// A label's address in a table, if it has a record there: the first one counts.
-pub fn look_up(labels: &[Label], number: u16) -> Found
+// A label's address in a table, if it has a record there: the first one counts. Vacant records have the number 0, which
+// is no label's.
+pub fn look_up(labels: &[Label], number: u16) -> Option<u16>
     ensures { result ≡ looked_up labels.now number }
 {
-    let mut i: usize = 0;
-    while i < labels.len() {
-        let label = labels[i];
-        if label.number == number {
-            return told(label);
-        }
-        i += 1;
+    if number == 0 {
+        return None;
     }
-    missing()
+    for label in labels {
+        if label.number == number {
+            return Some(label.address);
+        }
+    }
+    None
 }
 
-pub fn assemble(text: &[u8], memory: &mut [u16], labels: &mut [Label]) -> Assembled
+pub fn assemble(text: &[u8], memory: &mut [u16], labels: &mut [Label]) -> Result<u16, Refusal>
     ensures { Assembles text.now memory.old labels.old result memory.new labels.new }
 {
-    let mut keys = no_keys();
+    let mut keys = [0u32; LABELS];
     let answer = assemble_for(text, memory, &mut keys, labels.len());
     fill(labels, &keys);
     answer
 }
 
-fn no_labels() -> [Label; 32767]
-    ensures { 32767 ≡ length result }
-{
-    [Label {
-        number: 0,
-        address: 0,
-    }; 32767]
-}
-
 // For a caller that needs no table: one for every label is lent to `assemble`.
-pub fn load(text: &[u8], memory: &mut [u16]) -> Assembled
+pub fn load(text: &[u8], memory: &mut [u16]) -> Result<u16, Refusal>
     ensures { Loads (assembled text.now (length memory.old) 32767) result memory.new }
 {
-    let mut labels = no_labels();
+    let mut labels = [Label {
+        number: 0,
+        address: 0,
+    }; LABELS];
     assemble(text, memory, &mut labels)
 }

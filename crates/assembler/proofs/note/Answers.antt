@@ -1,0 +1,21 @@
+use Rattle.laws.proofs.Basics.{arith}
+use Rattle.assembler.proofs.Noting.{note-label, note-other}
+use Rattle.assembler.proofs.note.Goals as goal
+
+pub bounds-index-number : goal.bounds-index-number
+bounds-index-number c = (c.requires.free _ c.in-Label.is).0
+
+pub overflow_mul-labels : goal.overflow_mul-labels
+overflow_mul-labels c = omega (arith, (c.requires.free _ c.in-Label.is).0)
+
+pub overflow_add-labels : goal.overflow_add-labels
+overflow_add-labels c = omega (arith, (c.requires.free _ c.in-Label.is).0)
+
+pub bounds-labels-count : goal.bounds-labels-count
+bounds-labels-count c = (c.requires.free _ c.in-Label.is).1
+
+pub returns-in-Label : goal.returns-in-Label
+returns-in-Label c = note-label c.args.at c.args.item c.args.count c.args.labels.now c.args.index.now c.requires c.in-Label.is
+
+pub returns-in_default : goal.returns-in_default
+returns-in_default c = note-other c.args.at c.args.item c.args.count c.args.labels.now c.args.index.now c.requires (λ n e. c.in_default.not-Label n e)

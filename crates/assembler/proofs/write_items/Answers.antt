@@ -1,0 +1,26 @@
+use Rattle.laws.proofs.Basics.{⊎_elim, arith}
+use Rattle.assembler.proofs.Reading.{reads-one, reads_whole, reads-not}
+use Rattle.assembler.proofs.Filling.{filling-end, filling-writable, filling-spelled, filling-unknown, filling-on}
+use Rattle.assembler.proofs.write_items.Goals as goal
+
+pub returns-in-Whole : goal.returns-in-Whole
+returns-in-Whole c = ⊎_elim (λ e. filling-end _ _ _ _ _ _ _ c.loop-first.invariant (reads_whole _ _ c.next_in.ensures e))
+    (λ e. filling-end _ _ _ _ _ _ _ c.loop-first.invariant (reads-not _ _ c.next_in.ensures e.1)) c.in-Whole.is
+
+pub write_item-requires : goal.write_item-requires
+write_item-requires c = let one = reads-one _ _ c.next_in.ensures c.in-One.is in (
+  filling-writable _ _ _ _ _ _ _ c.loop-first.invariant one,
+  filling-spelled _ _ _ _ _ _ _ c.loop-first.invariant one,
+)
+
+pub returns-in_default : goal.returns-in_default
+returns-in_default c = let one = reads-one _ _ c.next_in.ensures c.in-One.is in
+    filling-unknown _ _ _ _ _ _ _ c.loop-first.invariant one c.write_item.ensures c.in_default.is
+
+pub loop-first-smaller : goal.loop-first-smaller
+loop-first-smaller c = let one = reads-one _ _ c.next_in.ensures c.in-One.is in
+    omega (arith, one.onward, one.within)
+
+pub loop-first-preserved : goal.loop-first-preserved
+loop-first-preserved c = let one = reads-one _ _ c.next_in.ensures c.in-One.is in
+    filling-on _ _ _ _ _ _ _ c.loop-first.invariant one c.write_item.ensures c.in-Some.is
