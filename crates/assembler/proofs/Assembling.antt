@@ -6,10 +6,10 @@ use Rattle.items.specs.Item.{Placed}
 use Rattle.items.specs.Scan.{Ending, whole, unreadable, Scan, ends, scan}
 use Rattle.assembler.specs.declared.Label.{Label}
 use Rattle.assembler.specs.Layout.{vacant, Laid, laid, refused, lay, unknowns}
-use Rattle.assembler.specs.Assemble.{start, image, Assembly, refuse, accept, on_laid, assembled}
+use Rattle.assembler.specs.Assemble.{start, image, Assembly, refuse, accept, on_laid, assembled, numbers, Assembles}
 use Rattle.words.specs.Globals.{no_globals}
-use Rattle.assembler.specs.Passes.{records, listed, Table, after_ending, laid_by, Lays, FitsAll, as_written, WritesAll, Ready, Passes}
-use Rattle.assembler.specs.Passes.{AssemblesKeys, Zeros}
+use Rattle.assembler.specs.Passes.{listed, Table, after_ending, laid_by, Lays, FitsAll, as_written, WritesAll, Ready, Passes}
+use Rattle.assembler.specs.Passes.{Zeros, Vacant}
 use Rattle.std.specs.Prelude.{Result, Ok, Err}
 use Rattle.text.specs.Faults.{number_of}
 use Rattle.text.specs.Line.{refusal}
@@ -17,8 +17,7 @@ use Rattle.text.specs.declared.Refusal.{Refusal}
 use Rattle.text.specs.declared.faults.Fault.TheVariants as F
 use Rattle.assembler.specs.declared.Faulted.{Faulted}
 use Rattle.assembler.proofs.Indexing.{writes-same}
-use Rattle.assembler.proofs.Noting.{count-records, records-append}
-use Rattle.assembler.proofs.Records.{vacant-records, cleared-records}
+use Rattle.assembler.proofs.Noting.{count-labels}
 use Rattle.assembler.proofs.Image.{Ends, laid-ends, image-is}
 
 -- ---- what the first pass's answer says of the layout and the ending
@@ -45,11 +44,9 @@ module _ (text : List ℕ) (memory room number place : ℕ) where
 
 -- ---- the table of an accepted text
 
-table_is : (count : ℕ) (table : List ℕ) → Table count table
-    → records table ≡ records (take count table) ++ replicate (length table - length (records (take count table))) vacant
-table_is count table t = let n : length (records (take count table)) ≡ count = count-records count table t in
-    ap records t.zeros ∙ records-append (take count table) (replicate (length table - count) 0)
-    ∙ ap (λ (l : List Label). records (take count table) ++ l) (vacant-records (length table - count)) ∙ rw n refl
+table_is : (count : ℕ) (table : List Label) → Table count table
+    → table ≡ take count table ++ replicate (length table - length (take count table)) vacant
+table_is count table t = t.others ∙ rw (count-labels count table t)
 
 -- ---- the passes' answers
 
@@ -57,11 +54,11 @@ pub length-fixed : (n : ℕ) → 416 ≤ n → length (start ++ no_globals ++ re
 unfolding no_globals
 length-fixed n h = let z : length (replicate {A = ℕ} (n - 416) 0) ≡ n - 416 = length-replicate (n - 416) 0 in omega arith
 
-module _ (text m₀ table : List ℕ) (s : Scan) {layout : Result ℕ Faulted} {table₁ index : List ℕ}
+module _ (text m₀ : List ℕ) (table : List Label) (s : Scan) {layout : Result ℕ Faulted} {table₁ : List Label} {index : List ℕ}
     (l : Lays (length m₀) s table layout table₁ index) where
   -- the labels that the pass found
   abbrev labels : List Label
-  labels = records (take l.count table₁)
+  labels = take l.count table₁
 
   -- what is to be given
   abbrev wanted : Assembly
@@ -118,7 +115,7 @@ module _ (text m₀ table : List ℕ) (s : Scan) {layout : Result ℕ Faulted} {
 
 -- ---- the whole
 
-module _ (text m₀ t₀ : List ℕ) where
+module _ (text m₀ : List ℕ) (t₀ : List Label) where
   pub passes-length : length m₀ < 512 ⊎ ((512 ≤ length m₀) × (32768 < length m₀)) → Passes text (length m₀) (length t₀) (assembled text (length m₀) (length t₀))
       (Err (record { fault = F.Memory; place = 0 })) m₀ t₀
   unfolding assembled
@@ -126,10 +123,10 @@ module _ (text m₀ t₀ : List ℕ) where
   passes-length (inr h) = (refl, refl, rw (le-leb 512 (length m₀) h.0, lt-leb (length m₀) 32768 h.1))
 
   module _ (h : 512 ≤ length m₀) (k : length m₀ ≤ 32768) where
-    pub is-ready : Zeros m₀ → Zeros t₀ → Ready m₀ t₀
-    is-ready m t = record { least = h; most = k; memory_zeros = m; table_zeros = t }
+    pub is-ready : Zeros m₀ → Vacant t₀ → Ready m₀ t₀
+    is-ready m t = record { least = h; most = k; memory_zeros = m; table_vacant = t }
 
-    pub passes-on : (s : Scan) → scan text ≡ s → (answer : Result ℕ Faulted) (m' t' : List ℕ)
+    pub passes-on : (s : Scan) → scan text ≡ s → (answer : Result ℕ Faulted) (m' : List ℕ) (t' : List Label)
         → Passes text (length m₀) (length t₀) (on_laid text (length m₀) (length t₀) (lay (length m₀) (length t₀) 416 [] s.items) s) answer m' t'
         → Passes text (length m₀) (length t₀) (assembled text (length m₀) (length t₀)) answer m' t'
     unfolding assembled
@@ -141,30 +138,27 @@ module _ (text m₀ t₀ : List ℕ) where
     passes-not e = (refl, refl, rw (le-leb 512 (length m₀) h, le-leb (length m₀) 32768 k, e))
 
 -- from a memory and a table that were cleared
-module _ (text m₀ t₀ : List ℕ) {m₁ t₁ : List ℕ} (m : m₁ ≡ replicate (length m₀) 0) (t : t₁ ≡ replicate (length t₀) 0) where
+module _ (text m₀ : List ℕ) (t₀ : List Label) {m₁ : List ℕ} {t₁ : List Label} (m : m₁ ≡ replicate (length m₀) 0)
+    (t : t₁ ≡ replicate (length t₀) vacant) where
   memory-length : length m₁ ≡ length m₀
   memory-length = ap length m ∙ length-replicate (length m₀) 0
 
   table-length : length t₁ ≡ length t₀
-  table-length = ap length t ∙ length-replicate (length t₀) 0
+  table-length = ap length t ∙ length-replicate (length t₀) vacant
 
-  pub are-zeros : Zeros m₁ × Zeros t₁
-  are-zeros = (rw memory-length m, rw table-length t)
-
-  module _ (answer : Result ℕ Faulted) (m₂ t₂ : List ℕ) (p : Passes text (length m₁) (length t₁) (assembled text (length m₁) (length t₁)) answer m₂ t₂)
-    where
-      pub assembles-not : {f : Faulted} → answer ≡ Err f → {m' t' : List ℕ} → m' ≡ replicate (length m₂) 0 → t' ≡ replicate (length t₂) 0
-          → {r : Refusal} → r ≡ refusal text (number_of f.fault) f.place → AssemblesKeys text m₀ t₀ (Err r) m' t'
-      unfolding refuse
-      assembles-not {f} e a b {r} i = let q = rw e at p in
-          let q0 : length m₂ ≡ length m₁ = q.0 in
-          let q1 : length t₂ ≡ length t₁ = q.1 in
-          let w : assembled text (length m₀) (length t₀) ≡ refuse text (length m₀) (length t₀) (number_of f.fault) f.place =
-          rw (memory-length, table-length) at q.2 in
-          record {
-            gives = rw w (record {
-              answers = ap Err i;
-              fills = a ∙ rw (q0, memory-length);
-              tables = cleared-records t₂ b ∙ rw (q1, table-length);
-            });
-          }
+  module _ (answer : Result ℕ Faulted) (m₂ : List ℕ) (t₂ : List Label)
+      (p : Passes text (length m₁) (length t₁) (assembled text (length m₁) (length t₁)) answer m₂ t₂) where
+    pub assembles-not : {f : Faulted} → answer ≡ Err f → {m' : List ℕ} {t' : List Label} → m' ≡ replicate (length m₂) 0
+        → t' ≡ replicate (length t₂) vacant → {r : Refusal} → r ≡ refusal text (number_of f.fault) f.place → Assembles text m₀ t₀ (Err r) m' t'
+    unfolding refuse
+    assembles-not {f} e a b {r} i = let q = rw e at p in
+        let q0 : length m₂ ≡ length m₁ = q.0 in
+        let q1 : length t₂ ≡ length t₁ = q.1 in
+        let w : assembled text (length m₀) (length t₀) ≡ refuse text (length m₀) (length t₀) (number_of f.fault) f.place =
+        rw (memory-length, table-length) at q.2 in
+        record {
+          answers = rw w (ap Err i);
+          tells = rw w (ap numbers (ap Err i));
+          fills = rw w (a ∙ rw (q0, memory-length));
+          tables = rw w (b ∙ rw (q1, table-length));
+        }

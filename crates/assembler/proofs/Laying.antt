@@ -7,14 +7,14 @@ use Rattle.items.specs.declared.Item.{Item}
 use Rattle.assembler.specs.Words.{in_range, size}
 use Rattle.assembler.specs.declared.Label.{Label}
 use Rattle.assembler.specs.Layout.{noted, Laid, refused, fault, lay}
-use Rattle.assembler.specs.Passes.{item_of, blank, records, listed, Indexes, Table, Notable, Notes, after_ending, laid_by, Lays, Zeros}
+use Rattle.assembler.specs.Passes.{item_of, blank, listed, Indexes, Table, Notable, Notes, after_ending, laid_by, Lays, Vacant}
 use Rattle.std.specs.Prelude.{Result, Ok, Err}
 use Rattle.text.specs.declared.faults.Fault.{Fault}
 use Rattle.text.specs.declared.faults.Fault.TheVariants as F
 use Rattle.text.specs.Faults.{number_of}
 use Rattle.assembler.specs.Passes.{fault_number}
 use Rattle.assembler.proofs.Indexing.{indexes-none, fault-same}
-use Rattle.assembler.proofs.Noting.{no-labels, count-records, may-note}
+use Rattle.assembler.proofs.Noting.{no-labels, count-labels, may-note}
 use Rattle.assembler.proofs.Faults.{no-fault-fits, no-fault-ranged}
 use Rattle.assembler.proofs.Reading.{Reads, size-blank, noted-blank, fault-blank}
 
@@ -70,19 +70,18 @@ no-number : (answer : Result (Unit {0}) Fault) → ((f : Fault) → answer ≡ E
 no-number (Ok u) h = refl
 no-number (Err f) h = absurd (h f refl)
 
-pub record Laying (text : List ℕ) (memory from : ℕ) (table₀ : List ℕ) (place at count : ℕ) (table index : List ℕ) : Type 0 where
+pub record Laying (text : List ℕ) (memory from : ℕ) (table₀ : List Label) (place at count : ℕ) (table : List Label) (index : List ℕ) : Type 0 where
   pub same : length table ≡ length table₀
   pub tabled : Table count table
-  pub indexed : Indexes index (records (take count table))
+  pub indexed : Indexes index (take count table)
   pub high : 416 ≤ at
   pub low : at ≤ memory
   pub so_far :
       laying memory (length table₀) 416 [] (body 0 from (drop from text))
-      ≡ laying memory (length table₀) at (records (take count table)) (body 0 place (drop place text))
+      ≡ laying memory (length table₀) at (take count table) (body 0 place (drop place text))
 
-pub laying-start : (text : List ℕ) (memory from : ℕ) (table index : List ℕ) → 416 ≤ memory → Zeros table → index ≡ replicate 32768 0
+pub laying-start : (text : List ℕ) (memory from : ℕ) (table : List Label) (index : List ℕ) → 416 ≤ memory → Vacant table → index ≡ replicate 32768 0
     → Laying text memory from table from 416 0 table index
-unfolding records
 laying-start text memory from table index h z e = record {
   same = refl;
   tabled = no-labels table z;
@@ -92,7 +91,7 @@ laying-start text memory from table index h z e = record {
   so_far = refl;
 }
 
-module _ (text : List ℕ) (memory from : ℕ) (table₀ : List ℕ) (place at count : ℕ) (table index : List ℕ)
+module _ (text : List ℕ) (memory from : ℕ) (table₀ : List Label) (place at count : ℕ) (table : List Label) (index : List ℕ)
     (l : Laying text memory from table₀ place at count table index) where
   pub laying-whole : body 0 place (drop place text) ≡ ends whole → Lays memory (body 0 from (drop from text)) table₀ (Ok at) table index
   unfolding laid_by after_ending lay
@@ -106,7 +105,7 @@ module _ (text : List ℕ) (memory from : ℕ) (table₀ : List ℕ) (place at c
   }
 
   refusal-lays : (f : Fault) (p : ℕ)
-      → laying memory (length table₀) at (records (take count table)) (body 0 place (drop place text)) ≡ refused (number_of f) p
+      → laying memory (length table₀) at (take count table) (body 0 place (drop place text)) ≡ refused (number_of f) p
       → Lays memory (body 0 from (drop from text)) table₀ (Err (record { fault = f; place = p })) table index
   unfolding laid_by
   refusal-lays f p e = record {
@@ -125,20 +124,20 @@ module _ (text : List ℕ) (memory from : ℕ) (table₀ : List ℕ) (place at c
 
   -- as many labels in the index as in the table
   pub laying-count : length (listed index) ≡ count
-  laying-count = l.indexed.counts ∙ count-records count table l.tabled
+  laying-count = l.indexed.counts ∙ count-labels count table l.tabled
 
   module _ {first : ℕ} {item : Item} {past : ℕ} (answer : Result (Unit {0}) Fault) (i : Reads text place first item past)
       (f : fault_number answer ≡ fault memory (length table₀) at (listed index) (item_of blank item)) where
     -- the code's fault is the definition's
-    known-fault : fault memory (length table₀) at (records (take count table)) (item_of blank item) ≡ fault_number answer
+    known-fault : fault memory (length table₀) at (take count table) (item_of blank item) ≡ fault_number answer
     known-fault = sym (f ∙ fault-same l.indexed memory (length table₀) at (item_of blank item))
 
-    fault-is : fault memory (length table₀) at (records (take count table)) i.read ≡ fault_number answer
-    fault-is = sym (fault-blank memory (length table₀) at (records (take count table)) i.read) ∙ (rw i.same at known-fault)
+    fault-is : fault memory (length table₀) at (take count table) i.read ≡ fault_number answer
+    fault-is = sym (fault-blank memory (length table₀) at (take count table) i.read) ∙ (rw i.same at known-fault)
 
     pub laying-fault : {g : Fault} → answer ≡ Err g
         → Lays memory (body 0 from (drop from text)) table₀ (Err (record { fault = g; place = first })) table index
-    laying-fault {g} e = refusal-lays g first (rw i.goes_on_lem (lay-refused memory (length table₀) at (records (take count table)) first i.read
+    laying-fault {g} e = refusal-lays g first (rw i.goes_on_lem (lay-refused memory (length table₀) at (take count table) first i.read
         (body 0 past (drop past text)) (number_of g) (fault-is ∙ rw e) (some-number g)))
 
     module _ (none : (g : Fault) → answer ≡ Err g → ⊥) where
@@ -146,7 +145,7 @@ module _ (text : List ℕ) (memory from : ℕ) (table₀ : List ℕ) (place at c
       z = no-number answer none
 
       pub laying-in-range : in_range (item_of blank item) ≡ true
-      laying-in-range = no-fault-ranged memory (length table₀) at (records (take count table)) (item_of blank item) (known-fault ∙ z)
+      laying-in-range = no-fault-ranged memory (length table₀) at (take count table) (item_of blank item) (known-fault ∙ z)
 
       pub laying-notable : memory < 65536 → Notable at item count table index
       laying-notable h = may-note memory at item count table index l.tabled l.indexed (omega (arith, l.high)) (omega (arith, l.low))
@@ -156,9 +155,9 @@ module _ (text : List ℕ) (memory from : ℕ) (table₀ : List ℕ) (place at c
       size_is e = e ∙ rw i.same (size-blank i.read)
 
       pub laying-size : {s : ℕ} → s ≡ size (item_of blank item) → at + s ≤ memory
-      laying-size e = rw (size_is e) (no-fault-fits memory (length table₀) at (records (take count table)) i.read (fault-is ∙ z) l.low)
+      laying-size e = rw (size_is e) (no-fault-fits memory (length table₀) at (take count table) i.read (fault-is ∙ z) l.low)
 
-      pub laying-on : {count' s : ℕ} {table' index' : List ℕ} → Notes at (item_of blank item) count table count' table' index'
+      pub laying-on : {count' s : ℕ} {table' : List Label} {index' : List ℕ} → Notes at (item_of blank item) count table count' table' index'
           → s ≡ size (item_of blank item)
           → Laying text memory from table₀ past (at + s) count' table' index'
       laying-on {count'} {s} {table'} n e = record {
@@ -168,6 +167,6 @@ module _ (text : List ℕ) (memory from : ℕ) (table₀ : List ℕ) (place at c
         high = omega (arith, l.high);
         low = laying-size e;
         so_far = l.so_far ∙ rw i.goes_on_lem
-            (lay-on memory (length table₀) at (records (take count table)) first i.read (body 0 past (drop past text)) (fault-is ∙ z)
-            ∙ rw (n.notes, i.same, noted-blank at (records (take count table)) i.read, size_is e));
+            (lay-on memory (length table₀) at (take count table) first i.read (body 0 past (drop past text)) (fault-is ∙ z)
+            ∙ rw (n.notes, i.same, noted-blank at (take count table) i.read, size_is e));
       }

@@ -2,7 +2,6 @@ pub mod Cleared
 pub mod Lookup
 pub mod Indexing
 pub mod Operands
-pub mod Records
 pub mod Numbered
 pub mod Faults
 pub mod Noting

@@ -1,12 +1,12 @@
 -- Looking a label up: what an answer says, and the public look-up.
 use Rattle.laws.proofs.Basics.{ℕ, zero, suc, ◌+◌, ◌<◌, ◌≤◌, ◌≡◌, refl, sym, ◌∙◌, List, [], ◌∷◌, ◌++◌, true, false, length, get_or, drop, replicate}
-use Rattle.laws.proofs.Basics.{length-map, drop_of_length-le, drop-cons, eqb, add-one, eq-eqb, ne_eqb}
+use Rattle.laws.proofs.Basics.{drop_of_length-le, drop-cons, eqb, add-one, eq-eqb, ne_eqb}
 use Rattle.laws.proofs.Cases.{by_cases, contradiction}
 use Rattle.std.specs.Prelude.{Option, Some, None}
 use Rattle.assembler.specs.declared.Label.{Label}
 use Rattle.assembler.specs.Layout.{vacant, defined, address_of}
 use Rattle.assembler.specs.Assemble.{looked_up}
-use Rattle.assembler.specs.Passes.{record_of, records, as_found}
+use Rattle.assembler.specs.Passes.{as_found}
 
 -- an answer's two readings
 pub was-at : (labels : List Label) (n : ℕ) {f : Option ℕ} {a : ℕ} → f ≡ as_found labels n → f ≡ Some a
@@ -19,10 +19,6 @@ pub was-missing : (labels : List Label) (n : ℕ) {f : Option ℕ} → f ≡ as_
 unfolding as_found
 was-missing labels n {f} p q =
     by_cases (defined labels n) (λ e. let y : Some (address_of labels n) ≡ None = (rw e at (sym p)) ∙ q in contradiction cc) (λ e. e)
-
-pub length-records : (keys : List ℕ) → length (records keys) ≡ length keys
-unfolding records
-length-records keys = length-map keys record_of
 
 -- ---- the public look-up, in the records from a place on
 

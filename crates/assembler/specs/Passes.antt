@@ -1,6 +1,6 @@
--- What the parts of `assemble` give: the code's items as the definitions have them, a table's keys and an index as records, and
+-- What the parts of `assemble` give: the code's items as the definitions have them, an index as records, and
 -- what each pass answers and leaves.
-use Rattle.std.specs.Prelude.{ℕ, zero, suc, ◌+◌, ◌-◌, ◌/◌, ◌%◌, ◌<◌, ◌≤◌, true, false, cond, ◌≡◌, List, [], ◌∷◌, ◌++◌, map, length, get_or, set}
+use Rattle.std.specs.Prelude.{ℕ, zero, suc, ◌+◌, ◌-◌, ◌/◌, ◌<◌, ◌≤◌, true, false, cond, ◌≡◌, List, [], ◌∷◌, ◌++◌, length, set}
 use Rattle.std.specs.Prelude.{replicate, take, drop, leb, ltb, Option, Some, None, Result, Ok, Err}
 use Rattle.std.proofs.lemmas.List.Edits.{sets}
 use Rattle.text.specs.declared.Refusal.{Refusal}
@@ -17,8 +17,8 @@ use Rattle.items.specs.declared.Base.TheVariants as B
 use Rattle.items.specs.declared.Item.{Item}
 use Rattle.items.specs.declared.Item.TheVariants as C
 use Rattle.assembler.specs.Words.{in_range, signed, size, words}
-use Rattle.assembler.specs.Layout.{defined, address_of, noted, Laid, laid, refused, lay, known, unknowns}
-use Rattle.assembler.specs.Assemble.{Assembly, refuse, assembled, numbers}
+use Rattle.assembler.specs.Layout.{vacant, defined, address_of, noted, Laid, laid, refused, lay, known, unknowns}
+use Rattle.assembler.specs.Assemble.{Assembly, refuse, numbers}
 use Rattle.assembler.specs.declared.Label.{Label}
 use Rattle.assembler.specs.declared.Faulted.{Faulted}
 
@@ -42,13 +42,6 @@ item_of cs (C.Global n m) = I.global n m
 -- where only a string's length matters
 abbrev pub blank : ℕ → List ℕ
 blank n = replicate n 0
-
--- the record that a key of the table stands for
-abbrev pub record_of : ℕ → Label
-record_of key = record { number = key / 65536; address = key % 65536 }
-
-unfoldable pub records : List ℕ → List Label
-records keys = map record_of keys
 
 unfoldable pub as_found : List Label → ℕ → Option ℕ
 as_found labels n = cond (defined labels n) (Some (address_of labels n)) None
@@ -82,24 +75,24 @@ fault_number (Err f) = number_of f
 
 -- ---- the first pass
 
--- the first `count` keys are labels', and the others are zeros
-pub record Table (count : ℕ) (table : List ℕ) : Type 0 where
+-- the first `count` records are labels', and the others are vacant
+pub record Table (count : ℕ) (table : List Label) : Type 0 where
   pub fits : count ≤ length table
-  pub zeros : table ≡ take count table ++ replicate (length table - count) 0
+  pub others : table ≡ take count table ++ replicate (length table - count) vacant
 
--- an item that is a label has a record, and a number that a key can hold and that is no label's yet
-pub record Notable (at : ℕ) (item : Item) (count : ℕ) (table index : List ℕ) : Type 0 where
+-- an item that is a label has a record, and a number that an index has and that is no label's yet
+pub record Notable (at : ℕ) (item : Item) (count : ℕ) (table : List Label) (index : List ℕ) : Type 0 where
   pub tabled : Table count table
-  pub indexed : Indexes index (records (take count table))
+  pub indexed : Indexes index (take count table)
   pub low : (0 < at) × (at < 65536)
-  pub free : (n : ℕ) → item ≡ C.Label n → (n < 32768) × (count < length table) × (defined (records (take count table)) n ≡ false)
+  pub free : (n : ℕ) → item ≡ C.Label n → (n < 32768) × (count < length table) × (defined (take count table) n ≡ false)
 
 -- the table, its count and the index after an item
-pub record Notes (at : ℕ) (item : I.Item) (count : ℕ) (table : List ℕ) (count' : ℕ) (table' index' : List ℕ) : Type 0 where
+pub record Notes (at : ℕ) (item : I.Item) (count : ℕ) (table : List Label) (count' : ℕ) (table' : List Label) (index' : List ℕ) : Type 0 where
   pub same : length table' ≡ length table
   pub tabled : Table count' table'
-  pub notes : records (take count' table') ≡ noted at (records (take count table)) item
-  pub indexed : Indexes index' (records (take count' table'))
+  pub notes : take count' table' ≡ noted at (take count table) item
+  pub indexed : Indexes index' (take count' table')
 
 -- a text that ends wrongly is refused where it does, after every fault of its items
 unfoldable pub after_ending : Ending → Laid → Laid
@@ -113,12 +106,12 @@ laid_by (Ok end) labels = laid labels end
 laid_by (Err f) labels = refused (number_of f.fault) f.place
 
 -- `count` labels are in the table, and the index has the same ones
-pub record Lays (memory : ℕ) (s : Scan) (table : List ℕ) (answer : Result ℕ Faulted) (table' index' : List ℕ) : Type 0 where
+pub record Lays (memory : ℕ) (s : Scan) (table : List Label) (answer : Result ℕ Faulted) (table' : List Label) (index' : List ℕ) : Type 0 where
   pub count : ℕ
   pub same : length table' ≡ length table
-  pub answers : laid_by answer (records (take count table')) ≡ after_ending s.ending (lay memory (length table) 416 [] s.items)
+  pub answers : laid_by answer (take count table') ≡ after_ending s.ending (lay memory (length table) 416 [] s.items)
   pub tabled : Table count table'
-  pub indexed : Indexes index' (records (take count table'))
+  pub indexed : Indexes index' (take count table')
   pub fits : (end : ℕ) → answer ≡ Ok end → end ≤ memory
 
 -- ---- the second pass
@@ -200,40 +193,26 @@ pub record WritesAll (labels : List Label) (s : Scan) (memory : List ℕ) (answe
 abbrev pub Zeros : List ℕ → Type 0
 Zeros l = l ≡ replicate (length l) 0
 
+abbrev pub Vacant : List Label → Type 0
+Vacant l = l ≡ replicate (length l) vacant
+
 -- memory and table before the passes
-pub record Ready (memory table : List ℕ) : Type 0 where
+pub record Ready (memory : List ℕ) (table : List Label) : Type 0 where
   pub least : 512 ≤ length memory
   pub most : length memory ≤ 32768
   pub memory_zeros : Zeros memory
-  pub table_zeros : Zeros table
+  pub table_vacant : Vacant table
 
-pub record Gives (a : Assembly) (answer : Result ℕ Refusal) (memory table : List ℕ) : Type 0 where
+pub record Gives (a : Assembly) (answer : Result ℕ Refusal) (memory : List ℕ) (table : List Label) : Type 0 where
   pub answers : answer ≡ a.answer
   pub fills : memory ≡ a.memory
-  pub tables : records table ≡ a.table
+  pub tables : table ≡ a.table
 
 -- what both passes give of an assembly: all of it, or the fault that it is refused for
-abbrev pub Passes : (text : List ℕ) (memory room : ℕ) → Assembly → Result ℕ Faulted → (memory' table' : List ℕ) → Type 0
+abbrev pub Passes : (text : List ℕ) (memory room : ℕ) → Assembly → Result ℕ Faulted → (memory' : List ℕ) (table' : List Label) → Type 0
 Passes text memory room a (Ok end) memory' table' = Gives a (Ok end) memory' table'
 Passes text memory room a (Err f) memory' table' =
     (length memory' ≡ memory) × (length table' ≡ room) × (a ≡ refuse text memory room (number_of f.fault) f.place)
-
--- the whole on keys
-pub record AssemblesKeys (text memory table : List ℕ) (answer : Result ℕ Refusal) (memory' table' : List ℕ) : Type 0 where
-  pub gives : Gives (assembled text (length memory) (length table)) answer memory' table'
-
--- ---- the lent records
-
--- so many records of the keys, with vacant ones past the last key
-unfoldable pub table_of : List ℕ → ℕ → List Label
-table_of keys zero = []
-table_of keys (suc n) = table_of keys n ++ (record_of (get_or keys n 0) ∷ [])
-
--- the passes' answer for a table of so many records, with the keys to fill it from
-pub record Serves (a : Assembly) (room : ℕ) (answer : Result ℕ Refusal) (memory keys : List ℕ) : Type 0 where
-  pub answers : answer ≡ a.answer
-  pub fills : memory ≡ a.memory
-  pub tables : table_of keys room ≡ a.table
 
 -- what a program is given that needs no table
 pub record Loads (a : Assembly) (answer : Result ℕ Refusal) (memory : List ℕ) : Type 0 where

@@ -1,12 +1,11 @@
 // The assembler: MINICODE text into the machine's memory, with a lent table of labels (document 01, "Assembly text").
 //
-// Two passes over the items. The first finds each label's address and every fault but an unknown label; the second
-// writes the words. In the passes a label's record is one number, a key: the label's number times 65,536 and its address.
-// The lent records are filled from the keys at the end; `look_up` finds a label in them. The passes find a label by an index,
+// Two passes over the items. The first finds each label's address, writes its record into the lent table, and finds every fault
+// but an unknown label; the second writes the words. `look_up` finds a label in the records. The passes find a label by an index,
 // the address of every label number, so that a look-up is one read however many labels there are.
 #![tactic(auto)]
 
-ghost use Rattle.std.specs.Prelude.{◌+◌, ◌-◌, ◌*◌, ◌<◌, ◌≤◌, ◌≡◌, true, [], ◌++◌, length, get_or, replicate, drop};
+ghost use Rattle.std.specs.Prelude.{◌+◌, ◌-◌, ◌*◌, ◌<◌, ◌≤◌, ◌≡◌, true, [], ◌++◌, length, replicate, drop};
 ghost use Rattle.std.proofs.lemmas.List.Edits.{sets};
 ghost use Rattle.items.specs.Item as I;
 ghost use Rattle.items.specs.Scan.{body};
@@ -14,12 +13,12 @@ ghost use Rattle.assembler.specs.Words.{label_in_range, operand_in_range, in_ran
 ghost use Rattle.text.specs.Faults.{number_of};
 ghost use Rattle.text.specs.Line.{refusal};
 ghost use Rattle.text.specs.Packed.{pairs};
-ghost use Rattle.assembler.specs.Layout.{fault, lay};
+ghost use Rattle.assembler.specs.Layout.{vacant, fault, lay};
 ghost use Rattle.assembler.specs.Assemble.{Assembles, assembled, looked_up, on_laid, start};
 ghost use Rattle.words.specs.Globals.{no_globals};
 ghost use Rattle.assembler.specs.Passes.{operand_of, base_of, item_of, blank, as_found, listed, label_fault, beyond, Notable, Notes, Lays, value_of};
-ghost use Rattle.assembler.specs.Passes.{Writable, Writes, letters, Spelling, item_at, Spelled, FitsAll, WritesAll, Zeros, Ready, Passes};
-ghost use Rattle.assembler.specs.Passes.{AssemblesKeys, record_of, table_of, Serves, Loads, fault_number};
+ghost use Rattle.assembler.specs.Passes.{Writable, Writes, letters, Spelling, item_at, Spelled, FitsAll, WritesAll, Zeros, Vacant, Ready, Passes};
+ghost use Rattle.assembler.specs.Passes.{Loads, fault_number};
 
 use items::{Base, Item, Next, Operand, Start};
 use text::{Character, Fault, Refusal};
@@ -45,8 +44,14 @@ const FIRST: usize = 416;
 // The entries of an index: the label numbers, and 0, which is no label's.
 const NUMBERS: usize = 32768;
 
-// The keys of a table that has room for every label.
+// The records of a table that has room for every label.
 const LABELS: usize = 32767;
+
+// The record of no label.
+const VACANT: Label = Label {
+    number: 0,
+    address: 0,
+};
 
 // An operand below it is short; in an instruction's word it says that the operand is the next word.
 const D: u16 = 512;
@@ -181,7 +186,7 @@ fn fault(
 
 // Gives a label its record and its entry in the index, and the number of records then.
 fn note(
-    labels: &mut [u32],
+    labels: &mut [Label],
     index: &mut [u16; NUMBERS],
     count: usize,
     at: usize,
@@ -193,7 +198,10 @@ fn note(
     match item {
         Item::Label(number) => {
             index[number as usize] = at as u16;
-            labels[count] = number * 65536 + at as u32;
+            labels[count] = Label {
+                number: number as u16,
+                address: at as u16,
+            };
             count + 1
         }
         _ => count,
@@ -206,10 +214,10 @@ fn lay_out(
     text: &[u8],
     from: usize,
     memory: usize,
-    labels: &mut [u32],
+    labels: &mut [Label],
     index: &mut [u16; NUMBERS],
 ) -> Result<usize, Faulted>
-    requires { (416 ≤ memory) × (memory ≤ 32768) × Zeros labels.old × (index.old ≡ replicate 32768 0) }
+    requires { (416 ≤ memory) × (memory ≤ 32768) × Vacant labels.old × (index.old ≡ replicate 32768 0) }
     ensures { Lays memory (body 0 from (drop from text.now)) labels.old result labels.new index.new }
 {
     let room = labels.len();
@@ -457,13 +465,13 @@ fn write_start(memory: &mut [u16])
 }
 
 // A refusal leaves zeros in the memory and in the table.
-fn refuse(text: &[u8], memory: &mut [u16], labels: &mut [u32], faulted: Faulted) -> Refusal
+fn refuse(text: &[u8], memory: &mut [u16], labels: &mut [Label], faulted: Faulted) -> Refusal
     ensures refusal { result ≡ refusal text.now (number_of faulted.fault) faulted.place }
     ensures no_words { memory.new ≡ replicate (length memory.old) 0 }
-    ensures no_labels { labels.new ≡ replicate (length labels.old) 0 }
+    ensures no_labels { labels.new ≡ replicate (length labels.old) vacant }
 {
     memory.fill(0);
-    labels.fill(0);
+    labels.fill(VACANT);
     text::refuse(text, faulted.fault.number(), faulted.place)
 }
 
@@ -472,7 +480,7 @@ fn passes_from(
     text: &[u8],
     from: usize,
     memory: &mut [u16],
-    labels: &mut [u32],
+    labels: &mut [Label],
 ) -> Result<u16, Faulted>
     requires { Ready memory.old labels.old }
     ensures { Passes text.now (length memory.old) (length labels.old) (on_laid text.now (length memory.old) (length labels.old)
@@ -487,8 +495,8 @@ fn passes_from(
 }
 
 // The first stack word, or the fault that the text is refused for.
-fn passes(text: &[u8], memory: &mut [u16], labels: &mut [u32]) -> Result<u16, Faulted>
-    requires { Zeros memory.old × Zeros labels.old }
+fn passes(text: &[u8], memory: &mut [u16], labels: &mut [Label]) -> Result<u16, Faulted>
+    requires { Zeros memory.old × Vacant labels.old }
     ensures { Passes text.now (length memory.old) (length labels.old) (assembled text.now (length memory.old) (length labels.old))
         result memory.new labels.new }
 {
@@ -504,64 +512,6 @@ fn passes(text: &[u8], memory: &mut [u16], labels: &mut [u32]) -> Result<u16, Fa
             place,
         }),
         Start::From(from) => passes_from(text, from, memory, labels),
-    }
-}
-
-// With a table of keys.
-fn assemble_keys(text: &[u8], memory: &mut [u16], labels: &mut [u32]) -> Result<u16, Refusal>
-    ensures { AssemblesKeys text.now memory.old labels.old result memory.new labels.new }
-{
-    memory.fill(0);
-    labels.fill(0);
-    match passes(text, memory, labels) {
-        Ok(end) => Ok(end),
-        Err(faulted) => Err(refuse(text, memory, labels, faulted)),
-    }
-}
-
-// With as many of the keys as a table of `room` records needs: there are no more than 32,767 labels.
-fn assemble_for(
-    text: &[u8],
-    memory: &mut [u16],
-    keys: &mut [u32],
-    room: usize,
-) -> Result<u16, Refusal>
-    requires { length keys.old ≡ 32767 }
-    ensures { Serves (assembled text.now (length memory.old) room) room result memory.new keys.new }
-{
-    if room < LABELS {
-        return assemble_keys(text, memory, &mut keys[0..room]);
-    }
-    assemble_keys(text, memory, keys)
-}
-
-fn record_of(key: u32) -> Label
-    ensures { result ≡ record_of key }
-{
-    Label {
-        number: (key / 65536) as u16,
-        address: (key % 65536) as u16,
-    }
-}
-
-// The record of a key, and a vacant one past the last.
-fn record_at(keys: &[u32], i: usize) -> Label
-    ensures { result ≡ record_of (get_or keys.now i 0) }
-{
-    if i < keys.len() {
-        record_of(keys[i])
-    } else {
-        record_of(0)
-    }
-}
-
-fn fill(labels: &mut [Label], keys: &[u32])
-    ensures { labels.new ≡ table_of keys.now (length labels.old) }
-{
-    let mut i: usize = 0;
-    while i < labels.len() {
-        labels[i] = record_at(keys, i);
-        i += 1;
     }
 }
 
@@ -584,19 +534,18 @@ pub fn look_up(labels: &[Label], number: u16) -> Option<u16>
 pub fn assemble(text: &[u8], memory: &mut [u16], labels: &mut [Label]) -> Result<u16, Refusal>
     ensures { Assembles text.now memory.old labels.old result memory.new labels.new }
 {
-    let mut keys = [0u32; LABELS];
-    let answer = assemble_for(text, memory, &mut keys, labels.len());
-    fill(labels, &keys);
-    answer
+    memory.fill(0);
+    labels.fill(VACANT);
+    match passes(text, memory, labels) {
+        Ok(end) => Ok(end),
+        Err(faulted) => Err(refuse(text, memory, labels, faulted)),
+    }
 }
 
 // For a caller that needs no table: one for every label is lent to `assemble`.
 pub fn load(text: &[u8], memory: &mut [u16]) -> Result<u16, Refusal>
     ensures { Loads (assembled text.now (length memory.old) 32767) result memory.new }
 {
-    let mut labels = [Label {
-        number: 0,
-        address: 0,
-    }; LABELS];
+    let mut labels = [VACANT; LABELS];
     assemble(text, memory, &mut labels)
 }

@@ -5,11 +5,8 @@ use Rattle.assembler.proofs.note.Goals as goal
 pub bounds-index-number : goal.bounds-index-number
 bounds-index-number c = (c.requires.free _ c.in-Label.is).0
 
-pub overflow_mul-labels : goal.overflow_mul-labels
-overflow_mul-labels c = omega (arith, (c.requires.free _ c.in-Label.is).0)
-
-pub overflow_add-labels : goal.overflow_add-labels
-overflow_add-labels c = omega (arith, (c.requires.free _ c.in-Label.is).0)
+pub overflow_cast-labels : goal.overflow_cast-labels
+overflow_cast-labels c = omega (arith, (c.requires.free _ c.in-Label.is).0)
 
 pub bounds-labels-count : goal.bounds-labels-count
 bounds-labels-count c = (c.requires.free _ c.in-Label.is).1
