@@ -16,6 +16,7 @@ use Rattle.text.specs.Line.{refusal}
 use Rattle.text.specs.declared.Refusal.{Refusal}
 use Rattle.text.specs.declared.faults.Fault.TheVariants as F
 use Rattle.assembler.specs.declared.Faulted.{Faulted}
+use Rattle.assembler.specs.declared.Index.{Index}
 use Rattle.assembler.proofs.Indexing.{writes-same}
 use Rattle.assembler.proofs.Noting.{count-labels}
 use Rattle.assembler.proofs.Image.{Ends, laid-ends, image-is}
@@ -54,11 +55,11 @@ pub length-fixed : (n : ℕ) → 416 ≤ n → length (start ++ no_globals ++ re
 unfolding no_globals
 length-fixed n h = let z : length (replicate {A = ℕ} (n - 416) 0) ≡ n - 416 = length-replicate (n - 416) 0 in omega arith
 
-module _ (text m₀ : List ℕ) (table : List Label) (s : Scan) {layout : Result ℕ Faulted} {table₁ : List Label} {index : List ℕ}
+module _ (text m₀ : List ℕ) (table : List Label) (s : Scan) {layout : Result ℕ Faulted} {table₁ : List Label} {index : Index}
     (l : Lays (length m₀) s table layout table₁ index) where
   -- the labels that the pass found
   abbrev labels : List Label
-  labels = take l.count table₁
+  labels = take index.count table₁
 
   -- what is to be given
   abbrev wanted : Assembly
@@ -102,7 +103,7 @@ module _ (text m₀ : List ℕ) (table : List Label) (s : Scan) {layout : Result
         unfolding accept
         passes-image h = let u : unknowns labels s.items ≡ [] = known-all _ (sym h ∙ w.answers) in
             let i : m₂ ≡ image (length m₀) labels s.items end = w.writes h ∙ rw f (image-is (length m₀) labels s.items end b placed-ends) in
-            rw (laid-is.1, laid-is.0, u) (record { answers = refl; fills = i; tables = rw (← l.same) (table_is l.count table₁ l.tabled) })
+            rw (laid-is.1, laid-is.0, u) (record { answers = refl; fills = i; tables = rw (← l.same) (table_is index.count table₁ l.tabled) })
 
         unknown-first : (us : List ℕ) (g : Faulted) → Err g ≡ as_written us → (v : List ℕ) × (us ≡ g.place ∷ v) × (g.fault ≡ F.UnknownLabel)
         unfolding as_written

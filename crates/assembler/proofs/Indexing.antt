@@ -10,8 +10,9 @@ use Rattle.items.specs.Scan.{Scan}
 use Rattle.assembler.specs.Words.{words, size, operand_word}
 use Rattle.assembler.specs.declared.Label.{Label}
 use Rattle.assembler.specs.Layout.{defined, address_of, misplaced, fault, known, unknowns}
-use Rattle.assembler.specs.Passes.{as_found, listed_from, listed, Indexes, put, filled, WritesAll}
+use Rattle.assembler.specs.Passes.{as_found, listed_from, no_index, listed, Indexes, put, filled, WritesAll}
 use Rattle.assembler.specs.declared.Faulted.{Faulted}
+use Rattle.assembler.specs.declared.Index.{Index}
 use Rattle.std.specs.Prelude.{Option, Some, None, Result}
 use Rattle.assembler.proofs.Lookup.{was-at, was-missing}
 
@@ -44,15 +45,15 @@ told-from k zero (suc a ∷ index) = rw (add-zero k) (simp (eq-eqb k k refl))
 told-from k (suc n) (zero ∷ index) = rw (add-shift k n) (told-from (suc k) n index)
 told-from k (suc n) (suc a ∷ index) = rw (add-shift k n) (simp (ne_eqb k (suc k + n) (λ q. omega arith)) (told-from (suc k) n index))
 
-module _ (index : List ℕ) (n : ℕ) where
-  told : as_found (listed index) n ≡ entry (get_or index n 0)
-  told = let e : 0 + n ≡ n = omega arith in rw e at (told-from 0 n index)
+module _ (index : Index) (n : ℕ) where
+  told : as_found (listed index) n ≡ entry (get_or index.addresses n 0)
+  told = let e : 0 + n ≡ n = omega arith in rw e at (told-from 0 n index.addresses)
 
-  pub found_none : get_or index n 0 ≡ 0 → None ≡ as_found (listed index) n
+  pub found_none : get_or index.addresses n 0 ≡ 0 → None ≡ as_found (listed index) n
   found_none e = sym (told ∙ ap entry e)
 
-  pub found_at : (get_or index n 0 ≡ 0 → ⊥) → Some (get_or index n 0) ≡ as_found (listed index) n
-  found_at h = sym (told ∙ entry_at (get_or index n 0) h)
+  pub found_at : (get_or index.addresses n 0 ≡ 0 → ⊥) → Some (get_or index.addresses n 0) ≡ as_found (listed index) n
+  found_at h = sym (told ∙ entry_at (get_or index.addresses n 0) h)
 
 -- ---- no labels, and one more
 
@@ -61,9 +62,9 @@ unfolding listed_from
 no-entries k zero = refl
 no-entries k (suc n) = no-entries (suc k) n
 
-pub indexes-none : {index : List ℕ} → index ≡ replicate 32768 0 → Indexes index []
-indexes-none e = let z : listed _ ≡ [] = ap listed e ∙ no-entries 0 32768 in
-    record { sized = ap length e ∙ length-replicate {A = ℕ} 32768 0; counts = ap length z; tells = λ m. rw z }
+pub indexes-none : Indexes no_index []
+indexes-none = let z : listed no_index ≡ [] = no-entries 0 32768 in
+    record { sized = length-replicate {A = ℕ} 32768 0; counts = ap length z; tells = λ m. rw z }
 
 one_more : (k n a : ℕ) (index : List ℕ) → n < length index → get_or index n 0 ≡ 0
     → length (listed_from k (set index n (suc a))) ≡ suc (length (listed_from k index))
@@ -87,26 +88,31 @@ found-more (l ∷ ls) n a m h = by_cases (eqb l.number m)
     (λ e. let q : l.number ≡ m = eqb-true _ _ e in simp (e, ne_eqb n m (λ p. (not_first l ls n h).0 (q ∙ sym p))))
     (λ e. simp e (found-more ls n a m (not_first l ls n h).1))
 
-pub indexes-more : (index : List ℕ) (labels : List Label) (n a : ℕ) → Indexes index labels → n < 32768 → 0 < a → defined labels n ≡ false
-    → Indexes (set index n a) (labels ++ (record { number = n; address = a } ∷ []))
+-- with an entry more, and any count
+abbrev pub entered : Index → (n a count : ℕ) → Index
+entered index n a count = record { addresses = set index.addresses n a; count = count }
+
+pub indexes-more : (index : Index) (labels : List Label) (n a count : ℕ) → Indexes index labels → n < 32768 → 0 < a → defined labels n ≡ false
+    → Indexes (entered index n a count) (labels ++ (record { number = n; address = a } ∷ []))
 unfolding as_found
-indexes-more index labels n zero i h p f = absurd (omega arith)
-indexes-more index labels n (suc a) i h p f = record {
+indexes-more index labels n zero count i h p f = absurd (omega arith)
+indexes-more index labels n (suc a) count i h p f = record {
   sized = rw length-set i.sized;
-  counts = one_more 0 n a index within vacant ∙ rw length-append (omega (arith, i.counts));
-  tells = λ m. told (set index n (suc a)) m ∙ by_equal n m (λ q. rw (eq-eqb n m q, ← q, get_or-set_same index n (suc a) 0 within))
-      (λ q. rw (ne_eqb n m q, get_or-set_other index n m (suc a) 0 (λ k. q (sym k))) (sym (told index m) ∙ i.tells m))
+  counts = one_more 0 n a index.addresses within vacant ∙ rw length-append (omega (arith, i.counts));
+  tells = λ m. told (entered index n (suc a) count) m
+      ∙ by_equal n m (λ q. rw (eq-eqb n m q, ← q, get_or-set_same index.addresses n (suc a) 0 within))
+      (λ q. rw (ne_eqb n m q, get_or-set_other index.addresses n m (suc a) 0 (λ k. q (sym k))) (sym (told index m) ∙ i.tells m))
       ∙ sym (found-more labels n (suc a) m f);
 }
   where
-    within : n < length index
+    within : n < length index.addresses
     within = omega (arith, i.sized)
 
     missing : as_found labels n ≡ None
     missing = rw f
 
-    vacant : get_or index n 0 ≡ 0
-    vacant = entry-missing (get_or index n 0) (sym (told index n) ∙ i.tells n ∙ missing)
+    vacant : get_or index.addresses n 0 ≡ 0
+    vacant = entry-missing (get_or index.addresses n 0) (sym (told index n) ∙ i.tells n ∙ missing)
 
 -- ---- tables that tell the same
 
@@ -152,7 +158,7 @@ module _ (a b : List Label) (same : (n : ℕ) → as_found a n ≡ as_found b n)
 
 -- ---- so an index serves for the records
 
-module _ {index : List ℕ} {labels : List Label} (i : Indexes index labels) where
+module _ {index : Index} {labels : List Label} (i : Indexes index labels) where
   pub fault-same : (memory room at : ℕ) (item : I.Item) → fault memory room at (listed index) item ≡ fault memory room at labels item
   unfolding fault misplaced
   fault-same memory room at (I.label n) = rw ((told_same (listed index) labels i.tells n).0, i.counts)

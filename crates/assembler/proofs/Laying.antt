@@ -1,13 +1,14 @@
 -- The first pass: what its loop keeps, and what each of its answers gives.
-use Rattle.laws.proofs.Basics.{ℕ, zero, suc, ◌+◌, ◌<◌, ◌≤◌, ◌≡◌, refl, sym, ◌∙◌, List, [], true, length, take, drop, replicate, arith}
+use Rattle.laws.proofs.Basics.{ℕ, zero, suc, ◌+◌, ◌<◌, ◌≤◌, ◌≡◌, refl, sym, ◌∙◌, List, [], true, length, take, drop, arith}
 use Rattle.laws.proofs.Cases.{contradiction}
 use Rattle.items.specs.Item as I
 use Rattle.items.specs.Scan.{Ending, whole, unreadable, Scan, ends, goes_on, body}
 use Rattle.items.specs.declared.Item.{Item}
 use Rattle.assembler.specs.Words.{in_range, size}
 use Rattle.assembler.specs.declared.Label.{Label}
+use Rattle.assembler.specs.declared.Index.{Index}
 use Rattle.assembler.specs.Layout.{noted, Laid, refused, fault, lay}
-use Rattle.assembler.specs.Passes.{item_of, blank, listed, Indexes, Table, Notable, Notes, after_ending, laid_by, Lays, Vacant}
+use Rattle.assembler.specs.Passes.{item_of, blank, no_index, listed, Indexes, Table, Notable, Notes, after_ending, laid_by, Lays, Vacant}
 use Rattle.std.specs.Prelude.{Result, Ok, Err}
 use Rattle.text.specs.declared.faults.Fault.{Fault}
 use Rattle.text.specs.declared.faults.Fault.TheVariants as F
@@ -70,33 +71,32 @@ no-number : (answer : Result (Unit {0}) Fault) → ((f : Fault) → answer ≡ E
 no-number (Ok u) h = refl
 no-number (Err f) h = absurd (h f refl)
 
-pub record Laying (text : List ℕ) (memory from : ℕ) (table₀ : List Label) (place at count : ℕ) (table : List Label) (index : List ℕ) : Type 0 where
+pub record Laying (text : List ℕ) (memory from : ℕ) (table₀ : List Label) (place at : ℕ) (table : List Label) (index : Index) : Type 0 where
   pub same : length table ≡ length table₀
-  pub tabled : Table count table
-  pub indexed : Indexes index (take count table)
+  pub tabled : Table index.count table
+  pub indexed : Indexes index (take index.count table)
   pub high : 416 ≤ at
   pub low : at ≤ memory
   pub so_far :
       laying memory (length table₀) 416 [] (body 0 from (drop from text))
-      ≡ laying memory (length table₀) at (take count table) (body 0 place (drop place text))
+      ≡ laying memory (length table₀) at (take index.count table) (body 0 place (drop place text))
 
-pub laying-start : (text : List ℕ) (memory from : ℕ) (table : List Label) (index : List ℕ) → 416 ≤ memory → Vacant table → index ≡ replicate 32768 0
-    → Laying text memory from table from 416 0 table index
-laying-start text memory from table index h z e = record {
+pub laying-start : (text : List ℕ) (memory from : ℕ) (table : List Label) → 416 ≤ memory → Vacant table
+    → Laying text memory from table from 416 table no_index
+laying-start text memory from table h z = record {
   same = refl;
   tabled = no-labels table z;
-  indexed = indexes-none e;
+  indexed = indexes-none;
   high = omega arith;
   low = h;
   so_far = refl;
 }
 
-module _ (text : List ℕ) (memory from : ℕ) (table₀ : List Label) (place at count : ℕ) (table : List Label) (index : List ℕ)
-    (l : Laying text memory from table₀ place at count table index) where
+module _ (text : List ℕ) (memory from : ℕ) (table₀ : List Label) (place at : ℕ) (table : List Label) (index : Index)
+    (l : Laying text memory from table₀ place at table index) where
   pub laying-whole : body 0 place (drop place text) ≡ ends whole → Lays memory (body 0 from (drop from text)) table₀ (Ok at) table index
   unfolding laid_by after_ending lay
   laying-whole e = record {
-    count = count;
     same = l.same;
     answers = sym (l.so_far ∙ rw e);
     tabled = l.tabled;
@@ -105,11 +105,10 @@ module _ (text : List ℕ) (memory from : ℕ) (table₀ : List Label) (place at
   }
 
   refusal-lays : (f : Fault) (p : ℕ)
-      → laying memory (length table₀) at (take count table) (body 0 place (drop place text)) ≡ refused (number_of f) p
+      → laying memory (length table₀) at (take index.count table) (body 0 place (drop place text)) ≡ refused (number_of f) p
       → Lays memory (body 0 from (drop from text)) table₀ (Err (record { fault = f; place = p })) table index
   unfolding laid_by
   refusal-lays f p e = record {
-    count = count;
     same = l.same;
     answers = sym (l.so_far ∙ e);
     tabled = l.tabled;
@@ -123,21 +122,21 @@ module _ (text : List ℕ) (memory from : ℕ) (table₀ : List Label) (place at
   laying-not {p} e = refusal-lays F.Unreadable p (rw e)
 
   -- as many labels in the index as in the table
-  pub laying-count : length (listed index) ≡ count
-  laying-count = l.indexed.counts ∙ count-labels count table l.tabled
+  pub laying-count : length (listed index) ≡ index.count
+  laying-count = l.indexed.counts ∙ count-labels index.count table l.tabled
 
   module _ {first : ℕ} {item : Item} {past : ℕ} (answer : Result (Unit {0}) Fault) (i : Reads text place first item past)
       (f : fault_number answer ≡ fault memory (length table₀) at (listed index) (item_of blank item)) where
     -- the code's fault is the definition's
-    known-fault : fault memory (length table₀) at (take count table) (item_of blank item) ≡ fault_number answer
+    known-fault : fault memory (length table₀) at (take index.count table) (item_of blank item) ≡ fault_number answer
     known-fault = sym (f ∙ fault-same l.indexed memory (length table₀) at (item_of blank item))
 
-    fault-is : fault memory (length table₀) at (take count table) i.read ≡ fault_number answer
-    fault-is = sym (fault-blank memory (length table₀) at (take count table) i.read) ∙ (rw i.same at known-fault)
+    fault-is : fault memory (length table₀) at (take index.count table) i.read ≡ fault_number answer
+    fault-is = sym (fault-blank memory (length table₀) at (take index.count table) i.read) ∙ (rw i.same at known-fault)
 
     pub laying-fault : {g : Fault} → answer ≡ Err g
         → Lays memory (body 0 from (drop from text)) table₀ (Err (record { fault = g; place = first })) table index
-    laying-fault {g} e = refusal-lays g first (rw i.goes_on_lem (lay-refused memory (length table₀) at (take count table) first i.read
+    laying-fault {g} e = refusal-lays g first (rw i.goes_on_lem (lay-refused memory (length table₀) at (take index.count table) first i.read
         (body 0 past (drop past text)) (number_of g) (fault-is ∙ rw e) (some-number g)))
 
     module _ (none : (g : Fault) → answer ≡ Err g → ⊥) where
@@ -145,28 +144,28 @@ module _ (text : List ℕ) (memory from : ℕ) (table₀ : List Label) (place at
       z = no-number answer none
 
       pub laying-in-range : in_range (item_of blank item) ≡ true
-      laying-in-range = no-fault-ranged memory (length table₀) at (take count table) (item_of blank item) (known-fault ∙ z)
+      laying-in-range = no-fault-ranged memory (length table₀) at (take index.count table) (item_of blank item) (known-fault ∙ z)
 
-      pub laying-notable : memory < 65536 → Notable at item count table index
-      laying-notable h = may-note memory at item count table index l.tabled l.indexed (omega (arith, l.high)) (omega (arith, l.low))
+      pub laying-notable : memory < 65536 → Notable at item table index
+      laying-notable h = may-note memory at item table index l.tabled l.indexed (omega (arith, l.high)) (omega (arith, l.low))
           (rw l.same (known-fault ∙ z))
 
       size_is : {s : ℕ} → s ≡ size (item_of blank item) → s ≡ size i.read
       size_is e = e ∙ rw i.same (size-blank i.read)
 
       pub laying-size : {s : ℕ} → s ≡ size (item_of blank item) → at + s ≤ memory
-      laying-size e = rw (size_is e) (no-fault-fits memory (length table₀) at (take count table) i.read (fault-is ∙ z) l.low)
+      laying-size e = rw (size_is e) (no-fault-fits memory (length table₀) at (take index.count table) i.read (fault-is ∙ z) l.low)
 
-      pub laying-on : {count' s : ℕ} {table' : List Label} {index' : List ℕ} → Notes at (item_of blank item) count table count' table' index'
+      pub laying-on : {s : ℕ} {table' : List Label} {index' : Index} → Notes at (item_of blank item) table index table' index'
           → s ≡ size (item_of blank item)
-          → Laying text memory from table₀ past (at + s) count' table' index'
-      laying-on {count'} {s} {table'} n e = record {
+          → Laying text memory from table₀ past (at + s) table' index'
+      laying-on {s} {table'} n e = record {
         same = n.same ∙ l.same;
         tabled = n.tabled;
         indexed = n.indexed;
         high = omega (arith, l.high);
         low = laying-size e;
         so_far = l.so_far ∙ rw i.goes_on_lem
-            (lay-on memory (length table₀) at (take count table) first i.read (body 0 past (drop past text)) (fault-is ∙ z)
-            ∙ rw (n.notes, i.same, noted-blank at (take count table) i.read, size_is e));
+            (lay-on memory (length table₀) at (take index.count table) first i.read (body 0 past (drop past text)) (fault-is ∙ z)
+            ∙ rw (n.notes, i.same, noted-blank at (take index.count table) i.read, size_is e));
       }

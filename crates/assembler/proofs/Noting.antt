@@ -4,10 +4,11 @@ use Rattle.laws.proofs.Basics.{set, take, replicate, length-set, length-take-le,
 use Rattle.items.specs.declared.Item.{Item}
 use Rattle.items.specs.declared.Item.TheVariants as C
 use Rattle.assembler.specs.declared.Label.{Label}
+use Rattle.assembler.specs.declared.Index.{Index}
 use Rattle.assembler.specs.Layout.{vacant, defined, noted, fault}
 use Rattle.assembler.specs.Passes.{item_of, blank, Indexes, Table, Notable, Notes, Vacant}
 use Rattle.assembler.proofs.Faults.{no-fault-label}
-use Rattle.assembler.proofs.Indexing.{indexes-more}
+use Rattle.assembler.proofs.Indexing.{entered, indexes-more}
 
 pub count-labels : (count : ℕ) (table : List Label) → Table count table → length (take count table) ≡ count
 count-labels count table t = length-take-le count table t.fits
@@ -29,40 +30,39 @@ module _ (table : List Label) (count : ℕ) (l : Label) (t : Table count table) 
       ∙ set_at (take count table) vacant (replicate (length table - (count + 1)) vacant) l count (length-take-le count table t.fits) in
       record { fits = rw length-set (omega arith); others = stored ∙ sym (rw (first-labels, length-set, append_assoc)) }
 
-pub note-label : (at : ℕ) (item : Item) (count : ℕ) (table : List Label) (index : List ℕ) {n : ℕ} → Notable at item count table index
-    → item ≡ C.Label n
-    → Notes at (item_of blank item) count table (count + 1) (set table count (record { number = n; address = at })) (set index n at)
+pub note-label : (at : ℕ) (item : Item) (table : List Label) (index : Index) {n : ℕ} → Notable at item table index → item ≡ C.Label n
+    → Notes at (item_of blank item) table index (set table index.count (record { number = n; address = at })) (entered index n at (index.count + 1))
 unfolding item_of noted
-note-label at item count table index {n} r e =
-    let f : (n < 32768) × (count < length table) × (defined (take count table) n ≡ false) = r.free n e in
+note-label at item table index {n} r e =
+    let f : (n < 32768) × (index.count < length table) × (defined (take index.count table) n ≡ false) = r.free n e in
     let l : Label = record { number = n; address = at } in
-    let k : take (count + 1) (set table count l) ≡ take count table ++ (l ∷ []) = first-labels table count l r.tabled f.1 in
+    let k : take (index.count + 1) (set table index.count l) ≡ take index.count table ++ (l ∷ []) = first-labels table index.count l r.tabled f.1 in
     record {
-      same = length-set table count l;
-      tabled = one_label table count l r.tabled f.1;
+      same = length-set table index.count l;
+      tabled = one_label table index.count l r.tabled f.1;
       notes = rw e k;
-      indexed = rw k (indexes-more index (take count table) n at r.indexed f.0 r.low.0 f.2);
+      indexed = rw k (indexes-more index (take index.count table) n at (index.count + 1) r.indexed f.0 r.low.0 f.2);
     }
 
 -- any other item leaves the table and the index as they are
-pub note-other : (at : ℕ) (item : Item) (count : ℕ) (table : List Label) (index : List ℕ) → Notable at item count table index
-    → ((n : ℕ) → item ≡ C.Label n → ⊥) → Notes at (item_of blank item) count table count table index
+pub note-other : (at : ℕ) (item : Item) (table : List Label) (index : Index) → Notable at item table index
+    → ((n : ℕ) → item ≡ C.Label n → ⊥) → Notes at (item_of blank item) table index table index
 unfolding item_of noted
-note-other at (C.Label n) count table index r h = absurd (h n refl)
-note-other at (C.Instruction f i b x) count table index r h = record { same = refl; tabled = r.tabled; notes = refl; indexed = r.indexed }
-note-other at (C.Constant x) count table index r h = record { same = refl; tabled = r.tabled; notes = refl; indexed = r.indexed }
-note-other at (C.String n) count table index r h = record { same = refl; tabled = r.tabled; notes = refl; indexed = r.indexed }
-note-other at (C.Global n m) count table index r h = record { same = refl; tabled = r.tabled; notes = refl; indexed = r.indexed }
+note-other at (C.Label n) table index r h = absurd (h n refl)
+note-other at (C.Instruction f i b x) table index r h = record { same = refl; tabled = r.tabled; notes = refl; indexed = r.indexed }
+note-other at (C.Constant x) table index r h = record { same = refl; tabled = r.tabled; notes = refl; indexed = r.indexed }
+note-other at (C.String n) table index r h = record { same = refl; tabled = r.tabled; notes = refl; indexed = r.indexed }
+note-other at (C.Global n m) table index r h = record { same = refl; tabled = r.tabled; notes = refl; indexed = r.indexed }
 
 -- ---- an item without fault may be noted
 
-pub may-note : (memory at : ℕ) (item : Item) (count : ℕ) (table : List Label) (index : List ℕ)
-    → Table count table → Indexes index (take count table) → 0 < at → at < 65536
-    → fault memory (length table) at (take count table) (item_of blank item) ≡ 0 → Notable at item count table index
+pub may-note : (memory at : ℕ) (item : Item) (table : List Label) (index : Index)
+    → Table index.count table → Indexes index (take index.count table) → 0 < at → at < 65536
+    → fault memory (length table) at (take index.count table) (item_of blank item) ≡ 0 → Notable at item table index
 unfolding item_of
-may-note memory at item count table index t i high low h = record { tabled = t; indexed = i; low = (high, low); free = free }
+may-note memory at item table index t i high low h = record { tabled = t; indexed = i; low = (high, low); free = free }
   where
-    free : (n : ℕ) → item ≡ C.Label n → (n < 32768) × (count < length table) × (defined (take count table) n ≡ false)
-    free n e = let z : (n ≤ 32767) × (length (take count table) < length table) × (defined (take count table) n ≡ false) =
-        no-fault-label memory (length table) at (take count table) n (rw e at h) in
-        let l : length (take count table) ≡ count = count-labels count table t in (omega arith, omega arith, z.2)
+    free : (n : ℕ) → item ≡ C.Label n → (n < 32768) × (index.count < length table) × (defined (take index.count table) n ≡ false)
+    free n e = let z : (n ≤ 32767) × (length (take index.count table) < length table) × (defined (take index.count table) n ≡ false) =
+        no-fault-label memory (length table) at (take index.count table) n (rw e at h) in
+        let l : length (take index.count table) ≡ index.count = count-labels index.count table t in (omega arith, omega arith, z.2)

@@ -21,6 +21,7 @@ use Rattle.assembler.specs.Layout.{vacant, defined, address_of, noted, Laid, lai
 use Rattle.assembler.specs.Assemble.{Assembly, refuse, numbers}
 use Rattle.assembler.specs.declared.Label.{Label}
 use Rattle.assembler.specs.declared.Faulted.{Faulted}
+use Rattle.assembler.specs.declared.Index.{Index}
 
 -- the code's items as the definitions' ones; a string's characters, which the code does not hold, are given by their number
 unfoldable pub operand_of : Operand → I.Operand
@@ -52,12 +53,15 @@ listed_from n [] = []
 listed_from n (zero ∷ index) = listed_from (suc n) index
 listed_from n (suc a ∷ index) = record { number = n; address = suc a } ∷ listed_from (suc n) index
 
-abbrev pub listed : List ℕ → List Label
-listed index = listed_from 0 index
+abbrev pub listed : Index → List Label
+listed index = listed_from 0 index.addresses
+
+abbrev pub no_index : Index
+no_index = record { addresses = replicate 32768 0; count = 0 }
 
 -- an index has as many labels as some records, and tells the same of every number
-pub record Indexes (index : List ℕ) (labels : List Label) : Type 0 where
-  pub sized : length index ≡ 32768
+pub record Indexes (index : Index) (labels : List Label) : Type 0 where
+  pub sized : length index.addresses ≡ 32768
   pub counts : length (listed index) ≡ length labels
   pub tells : (n : ℕ) → as_found (listed index) n ≡ as_found labels n
 
@@ -81,18 +85,18 @@ pub record Table (count : ℕ) (table : List Label) : Type 0 where
   pub others : table ≡ take count table ++ replicate (length table - count) vacant
 
 -- an item that is a label has a record, and a number that an index has and that is no label's yet
-pub record Notable (at : ℕ) (item : Item) (count : ℕ) (table : List Label) (index : List ℕ) : Type 0 where
-  pub tabled : Table count table
-  pub indexed : Indexes index (take count table)
+pub record Notable (at : ℕ) (item : Item) (table : List Label) (index : Index) : Type 0 where
+  pub tabled : Table index.count table
+  pub indexed : Indexes index (take index.count table)
   pub low : (0 < at) × (at < 65536)
-  pub free : (n : ℕ) → item ≡ C.Label n → (n < 32768) × (count < length table) × (defined (take count table) n ≡ false)
+  pub free : (n : ℕ) → item ≡ C.Label n → (n < 32768) × (index.count < length table) × (defined (take index.count table) n ≡ false)
 
--- the table, its count and the index after an item
-pub record Notes (at : ℕ) (item : I.Item) (count : ℕ) (table : List Label) (count' : ℕ) (table' : List Label) (index' : List ℕ) : Type 0 where
+-- the table and the index after an item
+pub record Notes (at : ℕ) (item : I.Item) (table : List Label) (index : Index) (table' : List Label) (index' : Index) : Type 0 where
   pub same : length table' ≡ length table
-  pub tabled : Table count' table'
-  pub notes : take count' table' ≡ noted at (take count table) item
-  pub indexed : Indexes index' (take count' table')
+  pub tabled : Table index'.count table'
+  pub notes : take index'.count table' ≡ noted at (take index.count table) item
+  pub indexed : Indexes index' (take index'.count table')
 
 -- a text that ends wrongly is refused where it does, after every fault of its items
 unfoldable pub after_ending : Ending → Laid → Laid
@@ -105,13 +109,12 @@ unfoldable pub laid_by : Result ℕ Faulted → List Label → Laid
 laid_by (Ok end) labels = laid labels end
 laid_by (Err f) labels = refused (number_of f.fault) f.place
 
--- `count` labels are in the table, and the index has the same ones
-pub record Lays (memory : ℕ) (s : Scan) (table : List Label) (answer : Result ℕ Faulted) (table' : List Label) (index' : List ℕ) : Type 0 where
-  pub count : ℕ
+-- the labels are in the table, and the index has the same ones
+pub record Lays (memory : ℕ) (s : Scan) (table : List Label) (answer : Result ℕ Faulted) (table' : List Label) (index' : Index) : Type 0 where
   pub same : length table' ≡ length table
-  pub answers : laid_by answer (take count table') ≡ after_ending s.ending (lay memory (length table) 416 [] s.items)
-  pub tabled : Table count table'
-  pub indexed : Indexes index' (take count table')
+  pub answers : laid_by answer (take index'.count table') ≡ after_ending s.ending (lay memory (length table) 416 [] s.items)
+  pub tabled : Table index'.count table'
+  pub indexed : Indexes index' (take index'.count table')
   pub fits : (end : ℕ) → answer ≡ Ok end → end ≤ memory
 
 -- ---- the second pass

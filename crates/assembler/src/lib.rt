@@ -16,7 +16,7 @@ ghost use Rattle.text.specs.Packed.{pairs};
 ghost use Rattle.assembler.specs.Layout.{vacant, fault, lay};
 ghost use Rattle.assembler.specs.Assemble.{Assembles, assembled, looked_up, on_laid, start};
 ghost use Rattle.words.specs.Globals.{no_globals};
-ghost use Rattle.assembler.specs.Passes.{operand_of, base_of, item_of, blank, as_found, listed, label_fault, beyond, Notable, Notes, Lays, value_of};
+ghost use Rattle.assembler.specs.Passes.{operand_of, base_of, item_of, blank, as_found, no_index, listed, label_fault, beyond, Notable, Notes, Lays, value_of};
 ghost use Rattle.assembler.specs.Passes.{Writable, Writes, letters, Spelling, item_at, Spelled, FitsAll, WritesAll, Zeros, Vacant, Ready, Passes};
 ghost use Rattle.assembler.specs.Passes.{Loads, fault_number};
 
@@ -56,14 +56,61 @@ const VACANT: Label = Label {
 // An operand below it is short; in an instruction's word it says that the operand is the next word.
 const D: u16 = 512;
 
-// A label's address: 0 is no label's.
-fn find(index: &[u16; NUMBERS], number: u32) -> Option<u16>
-    requires { label_in_range number ≡ true }
-    ensures { result ≡ as_found (listed index.now) number }
-{
-    match index[number as usize] {
-        0 => None,
-        address => Some(address),
+// The labels so far: how many, and by each number the label's address, or 0, which is no label's.
+#[derive(Drop)]
+struct Index {
+    addresses: [u16; NUMBERS],
+    count: usize,
+}
+
+impl Index {
+    fn new() -> Self
+        ensures { result ≡ no_index }
+    {
+        Self {
+            addresses: [0; NUMBERS],
+            count: 0,
+        }
+    }
+
+    fn find(&self, number: u32) -> Option<u16>
+        requires { label_in_range number ≡ true }
+        ensures { result ≡ as_found (listed self.now) number }
+    {
+        match self.addresses[number as usize] {
+            0 => None,
+            address => Some(address),
+        }
+    }
+
+    // A label twice, or one for which there is no record.
+    #[tactic(auto, unfolding(crate::specs::Passes::as_found))]
+    fn fault(&self, room: usize, number: u32) -> Result<(), Fault>
+        requires { (length (listed self.now) ≡ self.now.count) × (label_in_range number ≡ true) }
+        ensures { fault_number result ≡ label_fault room (listed self.now) number }
+    {
+        if self.find(number).is_some() {
+            return Err(Fault::LabelTwice);
+        }
+        if room <= self.count {
+            return Err(Fault::TableTooShort);
+        }
+        Ok(())
+    }
+
+    // Gives an item that is a label its record and its entry.
+    fn note(&mut self, labels: &mut [Label], at: usize, item: Item)
+        requires { Notable at item labels.old self.old }
+        ensures { Notes at (item_of blank item) labels.old self.old labels.new self.new }
+    {
+        if let Item::Label(number) = item {
+            self.addresses[number as usize] = at as u16;
+            labels[self.count] = Label {
+                number: number as u16,
+                address: at as u16,
+            };
+            self.count += 1;
+        }
     }
 }
 
@@ -132,21 +179,6 @@ fn size(item: Item) -> usize
     }
 }
 
-// A label twice, or one for which there is no record.
-#[tactic(auto, unfolding(crate::specs::Passes::as_found))]
-fn label_fault(room: usize, index: &[u16; NUMBERS], count: usize, number: u32) -> Result<(), Fault>
-    requires { (length (listed index.now) ≡ count) × (label_in_range number ≡ true) }
-    ensures { fault_number result ≡ label_fault room (listed index.now) number }
-{
-    if find(index, number).is_some() {
-        return Err(Fault::LabelTwice);
-    }
-    if room <= count {
-        return Err(Fault::TableTooShort);
-    }
-    Ok(())
-}
-
 // Whether some words from an address on reach past the memory.
 fn beyond(memory: usize, at: usize, words: usize) -> Result<(), Fault>
     requires { at ≤ memory }
@@ -161,50 +193,19 @@ fn beyond(memory: usize, at: usize, words: usize) -> Result<(), Fault>
 
 // The fault of an item that is to stand at an address, after the labels so far.
 #[tactic(auto, unfolding(crate::specs::Layout::fault, crate::specs::Layout::misplaced, crate::specs::Words::in_range, crate::specs::Passes::item_of))]
-fn fault(
-    memory: usize,
-    room: usize,
-    index: &[u16; NUMBERS],
-    count: usize,
-    at: usize,
-    item: Item,
-) -> Result<(), Fault>
-    requires { (length (listed index.now) ≡ count) × (at ≤ memory) }
+fn fault(memory: usize, room: usize, index: &Index, at: usize, item: Item) -> Result<(), Fault>
+    requires { (length (listed index.now) ≡ index.now.count) × (at ≤ memory) }
     ensures { fault_number result ≡ fault memory room at (listed index.now) (item_of blank item) }
 {
     if !in_range(item) {
         return Err(Fault::OutOfRange);
     }
     match item {
-        Item::Label(number) => label_fault(room, index, count, number),
+        Item::Label(number) => index.fault(room, number),
         Item::Instruction(_, _, _, _) | Item::Constant(_) | Item::String(_) => {
             beyond(memory, at, size(item))
         }
         Item::Global(_, _) => Ok(()),
-    }
-}
-
-// Gives a label its record and its entry in the index, and the number of records then.
-fn note(
-    labels: &mut [Label],
-    index: &mut [u16; NUMBERS],
-    count: usize,
-    at: usize,
-    item: Item,
-) -> usize
-    requires { Notable at item count labels.old index.old }
-    ensures { Notes at (item_of blank item) count labels.old result labels.new index.new }
-{
-    match item {
-        Item::Label(number) => {
-            index[number as usize] = at as u16;
-            labels[count] = Label {
-                number: number as u16,
-                address: at as u16,
-            };
-            count + 1
-        }
-        _ => count,
     }
 }
 
@@ -215,15 +216,14 @@ fn lay_out(
     from: usize,
     memory: usize,
     labels: &mut [Label],
-    index: &mut [u16; NUMBERS],
+    index: &mut Index,
 ) -> Result<usize, Faulted>
-    requires { (416 ≤ memory) × (memory ≤ 32768) × Vacant labels.old × (index.old ≡ replicate 32768 0) }
+    requires { (416 ≤ memory) × (memory ≤ 32768) × Vacant labels.old × (index.old ≡ no_index) }
     ensures { Lays memory (body 0 from (drop from text.now)) labels.old result labels.new index.new }
 {
     let room = labels.len();
     let mut place = from;
     let mut at = FIRST;
-    let mut count: usize = 0;
     loop {
         match items::next_in(text, place) {
             Next::Whole => {
@@ -236,13 +236,13 @@ fn lay_out(
                 });
             }
             Next::One(first, item, past) => {
-                if let Err(fault) = fault(memory, room, index, count, at, item) {
+                if let Err(fault) = fault(memory, room, index, at, item) {
                     return Err(Faulted {
                         fault,
                         place: first,
                     });
                 }
-                count = note(labels, index, count, at, item);
+                index.note(labels, at, item);
                 at += size(item);
                 place = past;
             }
@@ -252,13 +252,13 @@ fn lay_out(
 
 // An operand's word, if its label is known.
 #[tactic(auto, unfolding(crate::specs::Passes::value_of, crate::specs::Words::operand_in_range, crate::specs::Passes::operand_of))]
-fn value(index: &[u16; NUMBERS], x: Operand) -> Option<u16>
+fn value(index: &Index, x: Operand) -> Option<u16>
     requires { operand_in_range (operand_of x) ≡ true }
     ensures { result ≡ value_of (listed index.now) (operand_of x) }
 {
     match x {
         Operand::Number(minus, size) => Some(signed(minus, size)),
-        Operand::Address(number) => find(index, number),
+        Operand::Address(number) => index.find(number),
     }
 }
 
@@ -290,7 +290,7 @@ fn head(function: u16, indirect: bool, base: Base) -> u16
 fn write_instruction(
     memory: &mut [u16],
     at: usize,
-    index: &[u16; NUMBERS],
+    index: &Index,
     function: u16,
     indirect: bool,
     base: Base,
@@ -311,12 +311,7 @@ fn write_instruction(
     Some(at + 2)
 }
 
-fn write_constant(
-    memory: &mut [u16],
-    at: usize,
-    index: &[u16; NUMBERS],
-    x: Operand,
-) -> Option<usize>
+fn write_constant(memory: &mut [u16], at: usize, index: &Index, x: Operand) -> Option<usize>
     requires { Writable (I.constant (operand_of x)) at memory.old }
     ensures { Writes (listed index.now) (I.constant (operand_of x)) at memory.old result memory.new }
 {
@@ -327,14 +322,14 @@ fn write_constant(
 fn write_global(
     memory: &mut [u16],
     at: usize,
-    index: &[u16; NUMBERS],
+    index: &Index,
     global: u32,
     number: u32,
 ) -> Option<usize>
     requires { Writable (I.global global number) at memory.old }
     ensures { Writes (listed index.now) (I.global global number) at memory.old result memory.new }
 {
-    memory[16 + global as usize] = find(index, number)?;
+    memory[16 + global as usize] = index.find(number)?;
     Some(at)
 }
 
@@ -393,7 +388,7 @@ fn wide(byte: u8) -> u16
 fn write_item(
     memory: &mut [u16],
     at: usize,
-    index: &[u16; NUMBERS],
+    index: &Index,
     text: &[u8],
     place: usize,
     item: Item,
@@ -416,12 +411,7 @@ fn write_item(
 }
 
 // The second pass: the words of every item, up to one whose label is unknown.
-fn write_items(
-    memory: &mut [u16],
-    index: &[u16; NUMBERS],
-    text: &[u8],
-    from: usize,
-) -> Result<(), Faulted>
+fn write_items(memory: &mut [u16], index: &Index, text: &[u8], from: usize) -> Result<(), Faulted>
     requires { (416 ≤ length memory.old) × FitsAll (length memory.old) 416 (body 0 from (drop from text.now)).items }
     ensures { WritesAll (listed index.now) (body 0 from (drop from text.now)) memory.old
         result memory.new }
@@ -487,7 +477,7 @@ fn passes_from(
         (lay (length memory.old) (length labels.old) 416 [] (body 0 from (drop from text.now)).items)
         (body 0 from (drop from text.now))) result memory.new labels.new }
 {
-    let mut index = [0u16; NUMBERS];
+    let mut index = Index::new();
     let end = lay_out(text, from, memory.len(), labels, &mut index)?;
     write_start(memory);
     write_items(memory, &index, text, from)?;

@@ -4,7 +4,7 @@ use Rattle.assembler.proofs.Laying.{Laying}
 use Rattle.assembler.proofs.lay_out.Given as goal
 
 abbrev pub invariant-loop-place : goal.invariant-loop-place
-invariant-loop-place l = Laying l.text l.memory l.from l.fn.labels l.place l.at l.count l.labels l.index
+invariant-loop-place l = Laying l.text l.memory l.from l.fn.labels l.place l.at l.labels l.index
 
 abbrev pub decreases-loop-place : goal.decreases-loop-place
 decreases-loop-place l = length l.text - l.place
