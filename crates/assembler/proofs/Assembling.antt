@@ -1,6 +1,6 @@
 -- Both passes together: each way through `assemble` gives what the definition says.
-use Rattle.laws.proofs.Basics.{ℕ, ◌-◌, ◌<◌, ◌≤◌, ◌≡◌, refl, sym, ap, ◌∙◌, List, [], ◌∷◌, ◌++◌, length, take, replicate, length-replicate, arith}
-use Rattle.laws.proofs.Basics.{le-leb, lt-leb, ◌⊎◌, inl, inr}
+use Rattle.laws.proofs.Basics.{ℕ, ◌-◌, ◌≤◌, ◌≡◌, refl, sym, ap, ◌∙◌, List, [], ◌∷◌, ◌++◌, length, take, replicate, length-replicate, arith}
+use Rattle.laws.proofs.Basics.{Bool, true, false, ◌&&◌, leb}
 use Rattle.laws.proofs.Cases.{contradiction}
 use Rattle.items.specs.Item.{Placed}
 use Rattle.items.specs.Scan.{Ending, whole, unreadable, Scan, ends, scan}
@@ -8,8 +8,7 @@ use Rattle.assembler.specs.declared.Label.{Label}
 use Rattle.assembler.specs.Layout.{vacant, Laid, laid, refused, lay, unknowns}
 use Rattle.assembler.specs.Assemble.{start, image, Assembly, refuse, accept, on_laid, assembled, numbers, Assembles}
 use Rattle.words.specs.Globals.{no_globals}
-use Rattle.assembler.specs.Passes.{listed, Table, after_ending, laid_by, Lays, FitsAll, as_written, WritesAll, Ready, Passes}
-use Rattle.assembler.specs.Passes.{Zeros, Vacant}
+use Rattle.assembler.specs.Passes.{listed, Table, after_ending, laid_by, Lays, FitsAll, as_written, WritesAll, Passes}
 use Rattle.std.specs.Prelude.{Result, Ok, Err}
 use Rattle.text.specs.Faults.{number_of}
 use Rattle.text.specs.Line.{refusal}
@@ -117,26 +116,25 @@ module _ (text m₀ : List ℕ) (table : List Label) (s : Scan) {layout : Result
 -- ---- the whole
 
 module _ (text m₀ : List ℕ) (t₀ : List Label) where
-  pub passes-length : length m₀ < 512 ⊎ ((512 ≤ length m₀) × (32768 < length m₀)) → Passes text (length m₀) (length t₀) (assembled text (length m₀) (length t₀))
+  abbrev fitting : Bool
+  fitting = leb 512 (length m₀) && leb (length m₀) 32768
+
+  pub passes-length : fitting ≡ false → Passes text (length m₀) (length t₀) (assembled text (length m₀) (length t₀))
       (Err (record { fault = F.Memory; place = 0 })) m₀ t₀
   unfolding assembled
-  passes-length (inl h) = (refl, refl, rw (lt-leb 512 (length m₀) h))
-  passes-length (inr h) = (refl, refl, rw (le-leb 512 (length m₀) h.0, lt-leb (length m₀) 32768 h.1))
+  passes-length h = (refl, refl, rw h)
 
-  module _ (h : 512 ≤ length m₀) (k : length m₀ ≤ 32768) where
-    pub is-ready : Zeros m₀ → Vacant t₀ → Ready m₀ t₀
-    is-ready m t = record { least = h; most = k; memory_zeros = m; table_vacant = t }
-
+  module _ (h : fitting ≡ true) where
     pub passes-on : (s : Scan) → scan text ≡ s → (answer : Result ℕ Faulted) (m' : List ℕ) (t' : List Label)
         → Passes text (length m₀) (length t₀) (on_laid text (length m₀) (length t₀) (lay (length m₀) (length t₀) 416 [] s.items) s) answer m' t'
         → Passes text (length m₀) (length t₀) (assembled text (length m₀) (length t₀)) answer m' t'
     unfolding assembled
-    passes-on s e answer m' t' g = rw (le-leb 512 (length m₀) h, le-leb (length m₀) 32768 k, e) g
+    passes-on s e answer m' t' g = rw (h, e) g
 
     pub passes-not : {place : ℕ} → scan text ≡ ends (unreadable place)
         → Passes text (length m₀) (length t₀) (assembled text (length m₀) (length t₀)) (Err (record { fault = F.Unreadable; place = place })) m₀ t₀
     unfolding assembled lay
-    passes-not e = (refl, refl, rw (le-leb 512 (length m₀) h, le-leb (length m₀) 32768 k, e))
+    passes-not e = (refl, refl, rw (h, e))
 
 -- from a memory and a table that were cleared
 module _ (text m₀ : List ℕ) (t₀ : List Label) {m₁ : List ℕ} {t₁ : List Label} (m : m₁ ≡ replicate (length m₀) 0)

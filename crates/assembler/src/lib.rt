@@ -338,7 +338,7 @@ fn pair(high: u16, low: u8) -> u16
     requires { high < 256 }
     ensures { result ≡ high * 256 + low }
 {
-    high * 256 + low as u16
+    high * 256 + u16::from(low)
 }
 
 // A string's words: `first`, its length, and its characters, which begin at a place.
@@ -370,18 +370,12 @@ fn write_string(memory: &mut [u16], at: usize, text: &[u8], from: usize, first: 
                 return;
             }
             Character::Is(next, width) => {
-                high = wide(next);
+                high = u16::from(next);
                 place += width;
                 to += 1;
             }
         }
     }
-}
-
-fn wide(byte: u8) -> u16
-    ensures { (result ≡ byte) × (result < 256) }
-{
-    byte as u16
 }
 
 #[tactic(auto, unfolding(crate::specs::Passes::item_of))]
@@ -437,32 +431,26 @@ fn write_items(memory: &mut [u16], index: &Index, text: &[u8], from: usize) -> R
     }
 }
 
-// Words 0 to 7, and globals 13 and 14: the words that do not come from the text.
+// Words 0 to 7.
+const START: [u16; 8] = [5121, 49154, 57366, 57371, 57348, 6146, 57372, 57348];
+
+// The words that do not come from the text: words 0 to 7, and globals 13 and 14.
 fn write_start(memory: &mut [u16])
     requires { Zeros memory.old × (416 ≤ length memory.old) }
     ensures { memory.new ≡ start ++ no_globals ++ replicate (length memory.old - 416) 0 }
 {
-    memory[0] = 5121;
-    memory[1] = 49154;
-    memory[2] = 57366;
-    memory[3] = 57371;
-    memory[4] = 57348;
-    memory[5] = 6146;
-    memory[6] = 57372;
-    memory[7] = 57348;
-    memory[29] = 3;
-    memory[30] = 5;
+    memory[..8].copy_from_slice(&START);
+    memory[16 + 13] = 3;
+    memory[16 + 14] = 5;
 }
 
-// A refusal leaves zeros in the memory and in the table.
-fn refuse(text: &[u8], memory: &mut [u16], labels: &mut [Label], faulted: Faulted) -> Refusal
-    ensures refusal { result ≡ refusal text.now (number_of faulted.fault) faulted.place }
-    ensures no_words { memory.new ≡ replicate (length memory.old) 0 }
-    ensures no_labels { labels.new ≡ replicate (length labels.old) vacant }
+// Before the passes, and after a refusal.
+fn clear(memory: &mut [u16], labels: &mut [Label])
+    ensures words { memory.new ≡ replicate (length memory.old) 0 }
+    ensures labels { labels.new ≡ replicate (length labels.old) vacant }
 {
     memory.fill(0);
     labels.fill(VACANT);
-    text::refuse(text, faulted.fault.number(), faulted.place)
 }
 
 // Both passes, from past `$` on.
@@ -490,7 +478,7 @@ fn passes(text: &[u8], memory: &mut [u16], labels: &mut [Label]) -> Result<u16, 
     ensures { Passes text.now (length memory.old) (length labels.old) (assembled text.now (length memory.old) (length labels.old))
         result memory.new labels.new }
 {
-    if memory.len() < 512 || memory.len() > 32768 {
+    if !(512..=32768).contains(&memory.len()) {
         return Err(Faulted {
             fault: Fault::Memory,
             place: 0,
@@ -524,11 +512,13 @@ pub fn look_up(labels: &[Label], number: u16) -> Option<u16>
 pub fn assemble(text: &[u8], memory: &mut [u16], labels: &mut [Label]) -> Result<u16, Refusal>
     ensures { Assembles text.now memory.old labels.old result memory.new labels.new }
 {
-    memory.fill(0);
-    labels.fill(VACANT);
+    clear(memory, labels);
     match passes(text, memory, labels) {
-        Ok(end) => Ok(end),
-        Err(faulted) => Err(refuse(text, memory, labels, faulted)),
+        Ok(first) => Ok(first),
+        Err(Faulted { fault, place }) => {
+            clear(memory, labels);
+            Err(text::refuse(text, fault.number(), place))
+        }
     }
 }
 

@@ -39,4 +39,4 @@ pub loop-memory-preserved : goal.loop-memory-preserved
 loop-memory-preserved c =
     let one = when-is _ c.character_at-one.ensures c.in-Is.is in
     let two = when-is _ c.character_at-two.ensures c.in-Is-two.is in
-    spells-on _ _ _ _ _ _ _ _ _ c.loop-memory.invariant one c.pair-in-Is.ensures two c.wide-high.ensures.0 c.wide-high.ensures.1
+    spells-on _ _ _ _ _ _ _ _ _ c.loop-memory.invariant one c.pair-in-Is.ensures two c.from-high.ensures (omega arith)
