@@ -1,5 +1,5 @@
 -- The second pass: what its loop keeps, and what each of its answers gives.
-use Rattle.laws.proofs.Basics.{ℕ, ◌+◌, ◌≤◌, ◌≡◌, refl, sym, ap, ◌∙◌, List, true, false, length, drop}
+use Rattle.laws.proofs.Basics.{ℕ, ◌+◌, ◌≤◌, ◌≡◌, sym, ap, ◌∙◌, List, true, false, length, drop}
 use Rattle.laws.proofs.Cases.{by_cases, contradiction}
 use Rattle.items.specs.Item as I
 use Rattle.items.specs.Scan.{Ending, ends, body}
@@ -31,10 +31,6 @@ module _ (labels : List Label) (i : I.Item) (at : ℕ) (memory : List ℕ) {answ
   was-to : {address : ℕ} → answer ≡ Some address → (known labels i ≡ true) × (address ≡ at + size i)
   was-to {address} q = by_cases (known labels i) (λ e. let y : Some address ≡ Some (at + size i) = sym q ∙ w.answers ∙ rw e in (e, cc))
       (λ e. let y : Some address ≡ None = sym q ∙ w.answers ∙ rw e in contradiction cc)
-
-pub filling-start : (labels : List Label) (text memory : List ℕ) (from : ℕ) → 416 ≤ length memory
-    → FitsAll (length memory) 416 (body 0 from (drop from text)).items → Filling labels text memory from from 416 memory
-filling-start labels text memory from g f = record { same = refl; globals = g; fits = f; unknown-so-far = refl; filled-so-far = refl }
 
 module _ (labels : List Label) (text memory₀ : List ℕ) (from place at : ℕ) (memory : List ℕ) (l : Filling labels text memory₀ from place at memory)
   where

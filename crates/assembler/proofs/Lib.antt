@@ -15,6 +15,3 @@ pub mod Assembling
 pub mod Acceptance
 pub mod Rendering
 pub mod Examples
-pub mod Turns
-pub mod Walking
-pub mod Local

@@ -132,9 +132,6 @@ label-writes n labels at memory = writes-known labels (I.label n) at memory refl
 
 module _ (text : List ℕ) (place n at : ℕ) (memory : List ℕ) (r : Writable (I.string (letters text place)) at memory)
     (q : Quoting text place × (length (letters text place) ≡ n) × (place ≤ length text)) where
-  pub string-length : n ≤ 255
-  string-length = omega (arith, r.sound, q.1)
-
   pub string-spelling : Spelling text place n at memory
   unfolding size
   string-spelling = record { quoting = q.0; byte = omega (arith, r.sound, q.1); fits = r.fits }

@@ -38,14 +38,18 @@ struct Faulted {
     place: usize,
 }
 
-// The first word of the program.
+// Words 0 to 7.
+const START: [u16; 8] = [5121, 49154, 57366, 57371, 57348, 6146, 57372, 57348];
+
+// The word of global 0, and the first word of the program.
+const GLOBALS: usize = 16;
+
 const FIRST: usize = 416;
 
-// The entries of an index: the label numbers, and 0, which is no label's.
-const NUMBERS: usize = 32768;
-
-// The records of a table that has room for every label.
+// The records of a table that has room for every label, and the entries of an index: one for 0 too, which is no label's number.
 const LABELS: usize = 32767;
+
+const NUMBERS: usize = LABELS + 1;
 
 // The record of no label.
 const VACANT: Label = Label {
@@ -125,7 +129,8 @@ fn operand_in_range(x: Operand) -> bool
     ensures { result ≡ operand_in_range (operand_of x) }
 {
     match x {
-        Operand::Number(minus, size) => if minus { size <= 32768 } else { size <= 65535 },
+        Operand::Number(true, size) => size <= 32768,
+        Operand::Number(false, size) => size <= 65535,
         Operand::Address(number) => label_in_range(number),
     }
 }
@@ -147,11 +152,8 @@ fn signed(minus: bool, size: u32) -> u16
     requires { size < 65536 }
     ensures { result ≡ signed minus size }
 {
-    if minus {
-        words::negation(size as u16)
-    } else {
-        size as u16
-    }
+    let word = size as u16;
+    if minus { words::negation(word) } else { word }
 }
 
 #[tactic(auto, unfolding(crate::specs::Words::short, crate::specs::Words::operand_in_range, crate::specs::Passes::operand_of))]
@@ -329,7 +331,7 @@ fn write_global(
     requires { Writable (I.global global number) at memory.old }
     ensures { Writes (listed index.now) (I.global global number) at memory.old result memory.new }
 {
-    memory[16 + global as usize] = index.find(number)?;
+    memory[GLOBALS + global as usize] = index.find(number)?;
     Some(at)
 }
 
@@ -342,6 +344,7 @@ fn pair(high: u16, low: u8) -> u16
 }
 
 // A string's words: `first`, its length, and its characters, which begin at a place.
+// It goes on by each character's width, two characters a word: no `for` over bytes is plainer, since `*` begins two or four of them.
 fn write_string(memory: &mut [u16], at: usize, text: &[u8], from: usize, first: u16)
     requires { Spelling text.now from first at memory.old }
     ensures { memory.new ≡ sets memory.old at (pairs first (letters text.now from)) }
@@ -431,17 +434,14 @@ fn write_items(memory: &mut [u16], index: &Index, text: &[u8], from: usize) -> R
     }
 }
 
-// Words 0 to 7.
-const START: [u16; 8] = [5121, 49154, 57366, 57371, 57348, 6146, 57372, 57348];
-
 // The words that do not come from the text: words 0 to 7, and globals 13 and 14.
 fn write_start(memory: &mut [u16])
     requires { Zeros memory.old × (416 ≤ length memory.old) }
     ensures { memory.new ≡ start ++ no_globals ++ replicate (length memory.old - 416) 0 }
 {
     memory[..8].copy_from_slice(&START);
-    memory[16 + 13] = 3;
-    memory[16 + 14] = 5;
+    memory[GLOBALS + 13] = 3;
+    memory[GLOBALS + 14] = 5;
 }
 
 // Before the passes, and after a refusal.
