@@ -7,9 +7,10 @@ use Rattle.items.specs.declared.Item.{Item}
 use Rattle.assembler.specs.Words.{in_range, size}
 use Rattle.assembler.specs.declared.Label.{Label}
 use Rattle.assembler.specs.declared.Index.{Index}
+use Rattle.assembler.specs.declared.Faulted.{Faulted}
 use Rattle.assembler.specs.Layout.{noted, Laid, refused, fault, lay}
 use Rattle.assembler.specs.Passes.{item_of, blank, no_index, listed, Indexes, Table, Notable, Notes, after_ending, laid_by, Lays, Vacant}
-use Rattle.std.specs.Prelude.{Result, Ok, Err}
+use Rattle.std.specs.Prelude.{Result, Ok, Err, MatchResult, IsErrAnd}
 use Rattle.text.specs.declared.faults.Fault.{Fault}
 use Rattle.text.specs.declared.faults.Fault.TheVariants as F
 use Rattle.text.specs.Faults.{number_of}
@@ -70,6 +71,21 @@ some-number F.QuotedLength e = omega arith
 no-number : (answer : Result (Unit {0}) Fault) → ((f : Fault) → answer ≡ Err f → ⊥) → fault_number answer ≡ 0
 no-number (Ok u) h = refl
 no-number (Err f) h = absurd (h f refl)
+
+-- a fault with its place is an item's fault, and where there is none, the item has none
+pub mapped : (r : Result (Unit {0}) Fault) (q : Result (Unit {0}) Faulted) (P : Fault → Faulted → Type 0) (place : ℕ)
+    → MatchResult r (λ x. q ≡ Ok x) (λ e. IsErrAnd q (P e)) → ((e : Fault) (d : Faulted) → P e d → d ≡ record { fault = e; place = place })
+    → {d : Faulted} → q ≡ Err d → (r ≡ Err d.fault) × (d ≡ record { fault = d.fault; place = place })
+mapped (Ok u) q P place h k e = absurd cc
+mapped (Err f) (Ok u) P place h k e = absurd cc
+mapped (Err f) (Err g) P place h k {d} e = let z : g ≡ record { fault = f; place = place } = k f g h in
+    let y : d ≡ record { fault = f; place = place } = cc in (rw y, rw y)
+
+pub unmapped : (r : Result (Unit {0}) Fault) (q : Result (Unit {0}) Faulted) (P : Fault → Faulted → Type 0)
+    → MatchResult r (λ x. q ≡ Ok x) (λ e. IsErrAnd q (P e)) → {u : Unit {0}} → q ≡ Ok u → (g : Fault) → r ≡ Err g → ⊥
+unmapped (Ok u) q P h e g n = cc
+unmapped (Err f) (Ok u) P h e g n = h
+unmapped (Err f) (Err d) P h e g n = cc
 
 pub record Laying (text : List ℕ) (memory from : ℕ) (table₀ : List Label) (place at : ℕ) (table : List Label) (index : Index) : Type 0 where
   pub same : length table ≡ length table₀

@@ -174,7 +174,7 @@ fn size(item: Item) -> usize
     ensures { result ≡ size (item_of blank item) }
 {
     match item {
-        Item::Label(_) | Item::Global(_, _) => 0,
+        Item::Label(_) | Item::Global(..) => 0,
         Item::Instruction(_, _, _, x) => if short(x) { 1 } else { 2 },
         Item::Constant(_) => 1,
         Item::String(length) => length / 2 + 1,
@@ -204,10 +204,10 @@ fn fault(memory: usize, room: usize, index: &Index, at: usize, item: Item) -> Re
     }
     match item {
         Item::Label(number) => index.fault(room, number),
-        Item::Instruction(_, _, _, _) | Item::Constant(_) | Item::String(_) => {
+        Item::Instruction(..) | Item::Constant(_) | Item::String(_) => {
             beyond(memory, at, size(item))
         }
-        Item::Global(_, _) => Ok(()),
+        Item::Global(..) => Ok(()),
     }
 }
 
@@ -238,12 +238,10 @@ fn lay_out(
                 });
             }
             Next::One(first, item, past) => {
-                if let Err(fault) = fault(memory, room, index, at, item) {
-                    return Err(Faulted {
-                        fault,
-                        place: first,
-                    });
-                }
+                fault(memory, room, index, at, item).map_err(|fault| Faulted {
+                    fault,
+                    place: first,
+                })?;
                 index.note(labels, at, item);
                 at += size(item);
                 place = past;
@@ -421,13 +419,10 @@ fn write_items(memory: &mut [u16], index: &Index, text: &[u8], from: usize) -> R
                 return Ok(());
             }
             Next::One(first, item, past) => {
-                let Some(address) = write_item(memory, at, index, text, first, item) else {
-                    return Err(Faulted {
-                        fault: Fault::UnknownLabel,
-                        place: first,
-                    });
-                };
-                at = address;
+                at = write_item(memory, at, index, text, first, item).ok_or(Faulted {
+                    fault: Fault::UnknownLabel,
+                    place: first,
+                })?;
                 place = past;
             }
         }
