@@ -287,6 +287,8 @@ fn head(function: u16, indirect: bool, base: Base) -> u16
     function * 8192 + indirect_bit(indirect) + base_bit(base)
 }
 
+// The writing functions take memory, address and index as they are: a struct that held the lent memory would have to say in each
+// contract that it holds the same memory still.
 fn write_instruction(
     memory: &mut [u16],
     at: usize,
@@ -508,6 +510,7 @@ pub fn assemble(text: &[u8], memory: &mut [u16], labels: &mut [Label]) -> Result
     ensures { Assembles text.now memory.old labels.old result memory.new labels.new }
 {
     clear(memory, labels);
+    // A match: `map_err` is no plainer with a closure that holds memory and labels.
     match passes(text, memory, labels) {
         Ok(first) => Ok(first),
         Err(Faulted { fault, place }) => {
