@@ -11,7 +11,7 @@ use Rattle.assembler.specs.Layout.{defined, noted, Laid, laid, refused, misplace
 use Rattle.assembler.specs.Assemble.{start, image, refuse, accept, on_unknowns, on_ending, on_laid, assembled}
 use Rattle.words.specs.Globals.{no_globals}
 use Rattle.assembler.specs.Passes.{put, filled}
-use Rattle.assembler.specs.declared.Assembled.TheVariants.{Accepted, Refused}
+use Rattle.std.specs.Prelude.{Ok, Err}
 use Rattle.assembler.proofs.Operands.{label-range}
 use Rattle.assembler.proofs.Faults.{laid-first, no-fault-ranged, no-fault-placed, no-fault-fits, label-placed}
 use Rattle.assembler.proofs.Writing.{length-put}
@@ -113,12 +113,12 @@ pub record Acceptance (text : List ℕ) (memory room end : ℕ) : Type 0 where
 
 module _ (text : List ℕ) (memory room : ℕ) {end : ℕ} where
   module _ (labels : List Label) {to : ℕ} where
-    known-all : (us : List ℕ) → (on_unknowns text memory room us labels to (scan text).items).answer ≡ Accepted end → (us ≡ []) × (to ≡ end)
+    known-all : (us : List ℕ) → (on_unknowns text memory room us labels to (scan text).items).answer ≡ Ok end → (us ≡ []) × (to ≡ end)
     unfolding accept refuse
     known-all [] h = (refl, cc)
     known-all (u ∷ us) h = contradiction cc
 
-    ended-whole : (e : Ending) → (on_ending text memory room e labels to (scan text).items).answer ≡ Accepted end
+    ended-whole : (e : Ending) → (on_ending text memory room e labels to (scan text).items).answer ≡ Ok end
         → (e ≡ whole) × (unknowns labels (scan text).items ≡ []) × (to ≡ end)
     unfolding refuse
     ended-whole whole h = let k : (unknowns labels (scan text).items ≡ []) × (to ≡ end) = known-all (unknowns labels (scan text).items) h in
@@ -127,7 +127,7 @@ module _ (text : List ℕ) (memory room : ℕ) {end : ℕ} where
 
   module _ (least : 512 ≤ memory) (most : memory ≤ 32768) (within : assembled text memory room ≡ on_laid text memory room
       (lay memory room 416 [] (scan text).items) (scan text)) where
-    by_layout : (o : Laid) → lay memory room 416 [] (scan text).items ≡ o → (on_laid text memory room o (scan text)).answer ≡ Accepted end
+    by_layout : (o : Laid) → lay memory room 416 [] (scan text).items ≡ o → (on_laid text memory room o (scan text)).answer ≡ Ok end
         → Acceptance text memory room end
     unfolding refuse accept Proper
     by_layout (refused n p) e h = contradiction cc
@@ -150,8 +150,8 @@ module _ (text : List ℕ) (memory room : ℕ) {end : ℕ} where
           proper = laid-proper memory room 416 [] (scan text).items (omega arith) tt l;
         }
 
-  pub acceptance : (assembled text memory room).answer ≡ Accepted end → Acceptance text memory room end
+  pub acceptance : (assembled text memory room).answer ≡ Ok end → Acceptance text memory room end
   unfolding assembled refuse
   acceptance h = by_cases (leb 512 memory && leb memory 32768) (λ e. let b = both_true (leb 512 memory) (leb memory 32768) e in
       by_layout (leb-true 512 memory b.0) (leb-true memory 32768 b.1) (rw e) (lay memory room 416 [] (scan text).items) refl (rw e at h))
-      (λ e. let y : Refused (refusal text 24 0) ≡ Accepted end = rw e at h in contradiction cc)
+      (λ e. let y : Err (refusal text 24 0) ≡ Ok end = rw e at h in contradiction cc)

@@ -16,16 +16,15 @@ use Rattle.assembler.specs.Layout.{vacant, defined, address_of, noted, misplaced
 use Rattle.assembler.specs.Assemble.{globals_after, globals, program, image, refuse, accept, assembled, looked_up}
 use Rattle.words.specs.Globals.{no_globals}
 use Rattle.assembler.specs.declared.Label.{Label}
-use Rattle.assembler.specs.declared.Found.TheVariants.{At, Missing}
-use Rattle.assembler.specs.declared.Assembled.{Assembled}
-use Rattle.assembler.specs.declared.Assembled.TheVariants.{Accepted, Refused}
+use Rattle.std.specs.Prelude.{Some, None, Result, Ok, Err}
+use Rattle.text.specs.declared.Refusal.{Refusal}
 
 -- the answer to a text, with a memory of 512 words and a table of two labels
-abbrev answer : String → Assembled
+abbrev answer : String → Result ℕ Refusal
 answer text = (assembled (bytes text) 512 2).answer
 
-abbrev refused : (number place line : ℕ) → Assembled
-refused number place line = Refused (record { number = number; place = place; line = line })
+abbrev refused : (number place line : ℕ) → Result ℕ Refusal
+refused number place line = Err (record { number = number; place = place; line = line })
 
 abbrev labelled-at : (number address : ℕ) → Label
 labelled-at number address = record { number = number; address = address }
@@ -62,10 +61,10 @@ made_table = made "$ LIP2 K4 A-1 C\"HELLO\" Z" 416 8 gives (6146 ∷ 49156 ∷ 1
     -- nothing of a refused text stays
     made "$ 1: D1 G1L1 JL7 Z" 0 418 gives replicate 418 0 ∷ []
 
-abbrev answer-table : Table String Assembled
-answer-table = "$ LIP2 K4 A-1 C\"HELLO\" Z" gives Accepted 423 ∷
+abbrev answer-table : Table String (Result ℕ Refusal)
+answer-table = "$ LIP2 K4 A-1 C\"HELLO\" Z" gives Ok 423 ∷
     -- no item at all, with gaps and comments
-    "/ none\n  $ / begins\n Z / ends" gives Accepted 416 ∷
+    "/ none\n  $ / begins\n Z / ends" gives Ok 416 ∷
     -- refused: number, place and line
     "" gives refused 20 0 1 ∷
     "L1 Z" gives refused 20 0 1 ∷
@@ -103,10 +102,10 @@ abbrev long : ℕ → String → List ℕ
 long n more = bytes "$ C\"" ++ replicate n 65 ++ bytes "\"" ++ bytes more
 
 -- by a text's bytes and the memory's length, with a table of one label
-abbrev length-table : Table (List ℕ × ℕ) Assembled
+abbrev length-table : Table (List ℕ × ℕ) (Result ℕ Refusal)
 length-table = (bytes "", 511) gives refused 24 0 1 ∷ (bytes "$ Z", 32769) gives refused 24 0 1 ∷
     -- a program may fill the memory; then the first item that does not fit
-    (long 191 " 1: Z", 512) gives Accepted 512 ∷ (long 192 " Z", 512) gives refused 24 2 1 ∷ (long 191 "\nD1 D2 Z", 512) gives refused 24 197 2 ∷ []
+    (long 191 " 1: Z", 512) gives Ok 512 ∷ (long 192 " Z", 512) gives refused 24 2 1 ∷ (long 191 "\nD1 D2 Z", 512) gives refused 24 197 2 ∷ []
 
 pub record Labels : Type 0 where
   -- labels in text order, with their addresses; a last label may stand past the memory; none of a refused text
@@ -114,7 +113,7 @@ pub record Labels : Type 0 where
   pub last-label : (assembled (long 191 " 1: Z") 512 1).table ≡ labelled-at 1 512 ∷ []
   pub no-labels : (assembled (bytes "$ 1: D1 JL7 Z") 512 2).table ≡ vacant ∷ vacant ∷ []
   -- looked up there: a label that it has, one that it lacks, and 0, which is no label's number
-  pub looked-up : Each (looked_up (assembled (bytes "$ 7: D1 D2 3: Z") 512 3).table) (3 gives At 418 ∷ 4 gives Missing ∷ 0 gives Missing ∷ [])
+  pub looked-up : Each (looked_up (assembled (bytes "$ 7: D1 D2 3: Z") 512 3).table) (3 gives Some 418 ∷ 4 gives None ∷ 0 gives None ∷ [])
 
 -- every one of them, by computation
 pub examples : Each words_of made_table × Each answer answer-table × Each (λ g. (assembled g.0 g.1 1).answer) length-table × Labels

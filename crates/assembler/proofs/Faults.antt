@@ -1,4 +1,4 @@
--- An item's fault: out of range, or by what `misplaced` says of one in range; and what an item without fault satisfies.
+-- What an item without fault satisfies.
 use Rattle.laws.proofs.Basics.{ℕ, zero, suc, ◌+◌, ◌<◌, ◌≤◌, ◌≡◌, refl, List, ◌∷◌, true, false, length, ltb, arith, ltb-false, le-leb}
 use Rattle.laws.proofs.Cases.{by_cases, by_order, contradiction}
 use Rattle.items.specs.Item as I
@@ -7,15 +7,6 @@ use Rattle.assembler.specs.declared.Label.{Label}
 use Rattle.assembler.specs.Layout.{defined, noted, Laid, laid, on_fault, misplaced, fault, lay}
 use Rattle.assembler.specs.Passes.{label_fault, beyond}
 use Rattle.assembler.proofs.Operands.{label-range}
-
-module _ (memory room at : ℕ) (labels : List Label) (i : I.Item) where
-  pub fault-out : in_range i ≡ false → 23 ≡ fault memory room at labels i
-  unfolding fault
-  fault-out h = rw h
-
-  pub fault-in : {r : ℕ} → in_range i ≡ true → r ≡ misplaced memory room at labels i → r ≡ fault memory room at labels i
-  unfolding fault
-  fault-in h e = rw h e
 
 -- ---- the first item of a layout: where there is a layout, it has no fault
 

@@ -1,5 +1,5 @@
 -- The second pass: what its loop keeps, and what each of its answers gives.
-use Rattle.laws.proofs.Basics.{ℕ, ◌+◌, ◌≤◌, ◌≡◌, refl, sym, ap, ◌∙◌, List, true, false, length, drop}
+use Rattle.laws.proofs.Basics.{ℕ, ◌+◌, ◌≤◌, ◌≡◌, sym, ap, ◌∙◌, List, true, false, length, drop}
 use Rattle.laws.proofs.Cases.{by_cases, contradiction}
 use Rattle.items.specs.Item as I
 use Rattle.items.specs.Scan.{Ending, ends, body}
@@ -10,9 +10,8 @@ use Rattle.assembler.specs.Words.{in_range, size}
 use Rattle.assembler.specs.declared.Label.{Label}
 use Rattle.assembler.specs.Layout.{known, unknowns}
 use Rattle.assembler.specs.Passes.{filled, Writable, Writes, letters, Quoting, item_at, Spelled, FitsAll, as_written, WritesAll}
-use Rattle.assembler.specs.declared.Step.{Step}
-use Rattle.assembler.specs.declared.Step.TheVariants as S
-use Rattle.assembler.specs.declared.Written.TheVariants as W
+use Rattle.std.specs.Prelude.{Option, Some, None, Ok, Err}
+use Rattle.text.specs.declared.faults.Fault.TheVariants as F
 use Rattle.assembler.proofs.Reading.{Reads, item_back}
 
 pub record Filling (labels : List Label) (text memory₀ : List ℕ) (from place at : ℕ) (memory : List ℕ) : Type 0 where
@@ -24,22 +23,18 @@ pub record Filling (labels : List Label) (text memory₀ : List ℕ) (from place
       (body 0 place (drop place text)).items
 
 -- a step's answer, matched
-module _ (labels : List Label) (i : I.Item) (at : ℕ) (memory : List ℕ) {answer : Step} {memory' : List ℕ}
+module _ (labels : List Label) (i : I.Item) (at : ℕ) (memory : List ℕ) {answer : Option ℕ} {memory' : List ℕ}
     (w : Writes labels i at memory answer memory') where
-  was-unknown : answer ≡ S.Unknown → known labels i ≡ false
-  was-unknown q = by_cases (known labels i) (λ e. let y : S.Unknown ≡ S.To (at + size i) = sym q ∙ w.answers ∙ rw e in contradiction cc) (λ e. e)
+  was-unknown : answer ≡ None → known labels i ≡ false
+  was-unknown q = by_cases (known labels i) (λ e. let y : None ≡ Some (at + size i) = sym q ∙ w.answers ∙ rw e in contradiction cc) (λ e. e)
 
-  was-to : {address : ℕ} → answer ≡ S.To address → (known labels i ≡ true) × (address ≡ at + size i)
-  was-to {address} q = by_cases (known labels i) (λ e. let y : S.To address ≡ S.To (at + size i) = sym q ∙ w.answers ∙ rw e in (e, cc))
-      (λ e. let y : S.To address ≡ S.Unknown = sym q ∙ w.answers ∙ rw e in contradiction cc)
-
-pub filling-start : (labels : List Label) (text memory : List ℕ) (from : ℕ) → 416 ≤ length memory
-    → FitsAll (length memory) 416 (body 0 from (drop from text)).items → Filling labels text memory from from 416 memory
-filling-start labels text memory from g f = record { same = refl; globals = g; fits = f; unknown-so-far = refl; filled-so-far = refl }
+  was-to : {address : ℕ} → answer ≡ Some address → (known labels i ≡ true) × (address ≡ at + size i)
+  was-to {address} q = by_cases (known labels i) (λ e. let y : Some address ≡ Some (at + size i) = sym q ∙ w.answers ∙ rw e in (e, cc))
+      (λ e. let y : Some address ≡ None = sym q ∙ w.answers ∙ rw e in contradiction cc)
 
 module _ (labels : List Label) (text memory₀ : List ℕ) (from place at : ℕ) (memory : List ℕ) (l : Filling labels text memory₀ from place at memory)
   where
-    pub filling-end : {e : Ending} → body 0 place (drop place text) ≡ ends e → WritesAll labels (body 0 from (drop from text)) memory₀ W.Whole memory
+    pub filling-end : {e : Ending} → body 0 place (drop place text) ≡ ends e → WritesAll labels (body 0 from (drop from text)) memory₀ (Ok tt) memory
     unfolding unknowns filled as_written
     filling-end e = record { same = l.same; answers = rw (l.unknown-so-far, e); writes = λ q. sym (l.filled-so-far ∙ rw e) }
 
@@ -71,11 +66,11 @@ module _ (labels : List Label) (text memory₀ : List ℕ) (from place at : ℕ)
             (i.spelled k.characters k.item).2,
           )
 
-      module _ {answer : Step} {memory' : List ℕ} (w : Writes labels (item_at text first item) at memory answer memory') where
+      module _ {answer : Option ℕ} {memory' : List ℕ} (w : Writes labels (item_at text first item) at memory answer memory') where
         written : Writes labels i.read at memory answer memory'
         written = rw item-is at w
 
-        pub filling-unknown : answer ≡ S.Unknown → WritesAll labels (body 0 from (drop from text)) memory₀ (W.Unknown first) memory'
+        pub filling-unknown : answer ≡ None → WritesAll labels (body 0 from (drop from text)) memory₀ (Err (record { fault = F.UnknownLabel; place = first })) memory'
         unfolding unknowns as_written
         filling-unknown q = record {
           same = w.same ∙ l.same;
@@ -83,7 +78,7 @@ module _ (labels : List Label) (text memory₀ : List ℕ) (from place at : ℕ)
           writes = λ e. contradiction cc;
         }
 
-        pub filling-on : {address : ℕ} → answer ≡ S.To address → Filling labels text memory₀ from past address memory'
+        pub filling-on : {address : ℕ} → answer ≡ Some address → Filling labels text memory₀ from past address memory'
         unfolding unknowns filled
         filling-on {address} q =
             let t : (known labels i.read ≡ true) × (address ≡ at + size i.read) = was-to labels i.read at memory written q in

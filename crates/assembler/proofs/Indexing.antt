@@ -10,28 +10,28 @@ use Rattle.items.specs.Scan.{Scan}
 use Rattle.assembler.specs.Words.{words, size, operand_word}
 use Rattle.assembler.specs.declared.Label.{Label}
 use Rattle.assembler.specs.Layout.{defined, address_of, misplaced, fault, known, unknowns}
-use Rattle.assembler.specs.Passes.{as_found, listed_from, listed, Indexes, put, filled, WritesAll}
-use Rattle.assembler.specs.declared.Found.{Found}
-use Rattle.assembler.specs.declared.Found.TheVariants.{At, Missing}
-use Rattle.assembler.specs.declared.Written.{Written}
+use Rattle.assembler.specs.Passes.{as_found, listed_from, no_index, listed, Indexes, put, filled, WritesAll}
+use Rattle.assembler.specs.declared.Faulted.{Faulted}
+use Rattle.assembler.specs.declared.Index.{Index}
+use Rattle.std.specs.Prelude.{Option, Some, None, Result}
 use Rattle.assembler.proofs.Lookup.{was-at, was-missing}
 
 -- ---- an entry
 
-abbrev entry : ℕ → Found
-entry zero = Missing
-entry (suc a) = At (suc a)
+abbrev entry : ℕ → Option ℕ
+entry zero = None
+entry (suc a) = Some (suc a)
 
-entry-missing : (a : ℕ) → entry a ≡ Missing → a ≡ 0
+entry-missing : (a : ℕ) → entry a ≡ None → a ≡ 0
 entry-missing zero e = refl
 entry-missing (suc a) e = contradiction cc
 
-entry_at : (a : ℕ) → (a ≡ 0 → ⊥) → entry a ≡ At a
+entry_at : (a : ℕ) → (a ≡ 0 → ⊥) → entry a ≡ Some a
 entry_at zero h = absurd (h refl)
 entry_at (suc a) h = refl
 
 -- numbers below the first are not there
-below : (k m : ℕ) (index : List ℕ) → m < k → as_found (listed_from k index) m ≡ Missing
+below : (k m : ℕ) (index : List ℕ) → m < k → as_found (listed_from k index) m ≡ None
 unfolding listed_from as_found defined address_of
 below k m [] h = refl
 below k m (zero ∷ index) h = below (suc k) m index (omega arith)
@@ -45,15 +45,15 @@ told-from k zero (suc a ∷ index) = rw (add-zero k) (simp (eq-eqb k k refl))
 told-from k (suc n) (zero ∷ index) = rw (add-shift k n) (told-from (suc k) n index)
 told-from k (suc n) (suc a ∷ index) = rw (add-shift k n) (simp (ne_eqb k (suc k + n) (λ q. omega arith)) (told-from (suc k) n index))
 
-module _ (index : List ℕ) (n : ℕ) where
-  told : as_found (listed index) n ≡ entry (get_or index n 0)
-  told = let e : 0 + n ≡ n = omega arith in rw e at (told-from 0 n index)
+module _ (index : Index) (n : ℕ) where
+  told : as_found (listed index) n ≡ entry (get_or index.addresses n 0)
+  told = let e : 0 + n ≡ n = omega arith in rw e at (told-from 0 n index.addresses)
 
-  pub found_none : get_or index n 0 ≡ 0 → Missing ≡ as_found (listed index) n
+  pub found_none : get_or index.addresses n 0 ≡ 0 → None ≡ as_found (listed index) n
   found_none e = sym (told ∙ ap entry e)
 
-  pub found_at : (get_or index n 0 ≡ 0 → ⊥) → At (get_or index n 0) ≡ as_found (listed index) n
-  found_at h = sym (told ∙ entry_at (get_or index n 0) h)
+  pub found_at : (get_or index.addresses n 0 ≡ 0 → ⊥) → Some (get_or index.addresses n 0) ≡ as_found (listed index) n
+  found_at h = sym (told ∙ entry_at (get_or index.addresses n 0) h)
 
 -- ---- no labels, and one more
 
@@ -62,9 +62,9 @@ unfolding listed_from
 no-entries k zero = refl
 no-entries k (suc n) = no-entries (suc k) n
 
-pub indexes-none : {index : List ℕ} → index ≡ replicate 32768 0 → Indexes index []
-indexes-none e = let z : listed _ ≡ [] = ap listed e ∙ no-entries 0 32768 in
-    record { sized = ap length e ∙ length-replicate {A = ℕ} 32768 0; counts = ap length z; tells = λ m. rw z }
+pub indexes-none : Indexes no_index []
+indexes-none = let z : listed no_index ≡ [] = no-entries 0 32768 in
+    record { sized = length-replicate {A = ℕ} 32768 0; counts = ap length z; tells = λ m. rw z }
 
 one_more : (k n a : ℕ) (index : List ℕ) → n < length index → get_or index n 0 ≡ 0
     → length (listed_from k (set index n (suc a))) ≡ suc (length (listed_from k index))
@@ -81,33 +81,38 @@ unfolding defined
 not_first l ls n h = by_cases (eqb l.number n) (λ e. let y : true ≡ false = rw e at h in contradiction cc) (λ e. (eqb-false _ _ e, rw e at h))
 
 found-more : (labels : List Label) (n a m : ℕ) → defined labels n ≡ false
-    → as_found (labels ++ (record { number = n; address = a } ∷ [])) m ≡ cond (eqb n m) (At a) (as_found labels m)
+    → as_found (labels ++ (record { number = n; address = a } ∷ [])) m ≡ cond (eqb n m) (Some a) (as_found labels m)
 unfolding as_found defined address_of
 found-more [] n a m h = by_cases (eqb n m) (λ e. simp e) (λ e. simp e)
 found-more (l ∷ ls) n a m h = by_cases (eqb l.number m)
     (λ e. let q : l.number ≡ m = eqb-true _ _ e in simp (e, ne_eqb n m (λ p. (not_first l ls n h).0 (q ∙ sym p))))
     (λ e. simp e (found-more ls n a m (not_first l ls n h).1))
 
-pub indexes-more : (index : List ℕ) (labels : List Label) (n a : ℕ) → Indexes index labels → n < 32768 → 0 < a → defined labels n ≡ false
-    → Indexes (set index n a) (labels ++ (record { number = n; address = a } ∷ []))
+-- with an entry more, and any count
+abbrev pub entered : Index → (n a count : ℕ) → Index
+entered index n a count = record { addresses = set index.addresses n a; count = count }
+
+pub indexes-more : (index : Index) (labels : List Label) (n a count : ℕ) → Indexes index labels → n < 32768 → 0 < a → defined labels n ≡ false
+    → Indexes (entered index n a count) (labels ++ (record { number = n; address = a } ∷ []))
 unfolding as_found
-indexes-more index labels n zero i h p f = absurd (omega arith)
-indexes-more index labels n (suc a) i h p f = record {
+indexes-more index labels n zero count i h p f = absurd (omega arith)
+indexes-more index labels n (suc a) count i h p f = record {
   sized = rw length-set i.sized;
-  counts = one_more 0 n a index within vacant ∙ rw length-append (omega (arith, i.counts));
-  tells = λ m. told (set index n (suc a)) m ∙ by_equal n m (λ q. rw (eq-eqb n m q, ← q, get_or-set_same index n (suc a) 0 within))
-      (λ q. rw (ne_eqb n m q, get_or-set_other index n m (suc a) 0 (λ k. q (sym k))) (sym (told index m) ∙ i.tells m))
+  counts = one_more 0 n a index.addresses within vacant ∙ rw length-append (omega (arith, i.counts));
+  tells = λ m. told (entered index n (suc a) count) m
+      ∙ by_equal n m (λ q. rw (eq-eqb n m q, ← q, get_or-set_same index.addresses n (suc a) 0 within))
+      (λ q. rw (ne_eqb n m q, get_or-set_other index.addresses n m (suc a) 0 (λ k. q (sym k))) (sym (told index m) ∙ i.tells m))
       ∙ sym (found-more labels n (suc a) m f);
 }
   where
-    within : n < length index
+    within : n < length index.addresses
     within = omega (arith, i.sized)
 
-    missing : as_found labels n ≡ Missing
+    missing : as_found labels n ≡ None
     missing = rw f
 
-    vacant : get_or index n 0 ≡ 0
-    vacant = entry-missing (get_or index n 0) (sym (told index n) ∙ i.tells n ∙ missing)
+    vacant : get_or index.addresses n 0 ≡ 0
+    vacant = entry-missing (get_or index.addresses n 0) (sym (told index n) ∙ i.tells n ∙ missing)
 
 -- ---- tables that tell the same
 
@@ -120,8 +125,8 @@ module _ (a b : List Label) (same : (n : ℕ) → as_found a n ≡ as_found b n)
   told_same : (n : ℕ) → (defined a n ≡ defined b n) × (address_of a n ≡ address_of b n)
   unfolding as_found
   told_same n = by_cases (defined a n)
-      (λ e. let f : as_found a n ≡ At (address_of a n) = rw e in (e ∙ sym (was-at b n (same n) f).0, sym (was-at b n (same n) f).1))
-      (λ e. let f : as_found a n ≡ Missing = rw e in
+      (λ e. let f : as_found a n ≡ Some (address_of a n) = rw e in (e ∙ sym (was-at b n (same n) f).0, sym (was-at b n (same n) f).1))
+      (λ e. let f : as_found a n ≡ None = rw e in
       let g : defined b n ≡ false = was-missing b n (same n) f in (e ∙ sym g, undefined-zero a n e ∙ sym (undefined-zero b n g)))
 
   known_same : (i : I.Item) → known a i ≡ known b i
@@ -153,7 +158,7 @@ module _ (a b : List Label) (same : (n : ℕ) → as_found a n ≡ as_found b n)
 
 -- ---- so an index serves for the records
 
-module _ {index : List ℕ} {labels : List Label} (i : Indexes index labels) where
+module _ {index : Index} {labels : List Label} (i : Indexes index labels) where
   pub fault-same : (memory room at : ℕ) (item : I.Item) → fault memory room at (listed index) item ≡ fault memory room at labels item
   unfolding fault misplaced
   fault-same memory room at (I.label n) = rw ((told_same (listed index) labels i.tells n).0, i.counts)
@@ -162,7 +167,7 @@ module _ {index : List ℕ} {labels : List Label} (i : Indexes index labels) whe
   fault-same memory room at (I.string cs) = refl
   fault-same memory room at (I.global n m) = refl
 
-  pub writes-same : {s : Scan} {memory : List ℕ} {answer : Written} {memory' : List ℕ}
+  pub writes-same : {s : Scan} {memory : List ℕ} {answer : Result (Unit {0}) Faulted} {memory' : List ℕ}
       → WritesAll (listed index) s memory answer memory' → WritesAll labels s memory answer memory'
   writes-same {s} {memory} w = record {
     same = w.same;

@@ -2,7 +2,6 @@ pub mod Cleared
 pub mod Lookup
 pub mod Indexing
 pub mod Operands
-pub mod Records
 pub mod Numbered
 pub mod Faults
 pub mod Noting
@@ -16,6 +15,3 @@ pub mod Assembling
 pub mod Acceptance
 pub mod Rendering
 pub mod Examples
-pub mod Turns
-pub mod Walking
-pub mod Local

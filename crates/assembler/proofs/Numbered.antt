@@ -1,19 +1,16 @@
 -- No text has more than 32,767 labels: they differ, and lie from 1 to 32,767. So a table of more records serves as one of 32,767.
-use Rattle.laws.proofs.Basics.{ℕ, zero, suc, ◌+◌, ◌-◌, ◌<◌, ◌≤◌, ◌≡◌, refl, sym, ap, subst, ◌∙◌, List, [], ◌∷◌, ◌++◌, append_assoc, Bool, true, false}
-use Rattle.laws.proofs.Basics.{◌&&◌, cond, length, take, replicate, length-append, replicate-append-replicate, length-take-le, take_at, eqb, leb}
-use Rattle.laws.proofs.Basics.{sub-zero, arith, eq-eqb, ne_eqb, lt-leb}
+use Rattle.laws.proofs.Basics.{ℕ, zero, suc, ◌+◌, ◌-◌, ◌<◌, ◌≤◌, ◌≡◌, refl, sym, ap, ◌∙◌, List, [], ◌∷◌, ◌++◌, append_assoc, Bool, true, false}
+use Rattle.laws.proofs.Basics.{◌&&◌, cond, length, replicate, length-append, replicate-append-replicate, eqb, leb}
+use Rattle.laws.proofs.Basics.{arith, eq-eqb, ne_eqb, lt-leb}
 use Rattle.laws.proofs.Cases.{by_cases, by_equal}
 use Rattle.items.specs.Item as I
 use Rattle.items.specs.Scan.{Ending, whole, unreadable, Scan, scan}
 use Rattle.assembler.specs.Words.{in_range, size}
 use Rattle.assembler.specs.declared.Label.{Label}
 use Rattle.assembler.specs.Layout.{vacant, defined, noted, Laid, laid, refused, on_fault, misplaced, fault, lay, unknowns}
-use Rattle.assembler.specs.Assemble.{Assembly, refuse, accept, on_unknowns, on_ending, on_laid, assembled, numbers, Assembles}
-use Rattle.assembler.specs.Passes.{records, table_of, Gives, AssemblesKeys, Serves, Loads}
-use Rattle.assembler.specs.declared.Assembled.{Assembled}
+use Rattle.assembler.specs.Assemble.{Assembly, refuse, accept, on_unknowns, on_ending, on_laid, assembled}
 use Rattle.assembler.proofs.Operands.{label-range}
 use Rattle.assembler.proofs.Faults.{laid-first, on-fault-alike, no-fault-ranged, no-fault-placed, label-placed}
-use Rattle.assembler.proofs.Records.{table-within, table-past}
 
 -- how many of the numbers 1 to k are no label's
 unfoldable free : List Label → ℕ → ℕ
@@ -179,41 +176,3 @@ module _ (text : List ℕ) (memory limit room : ℕ) (r : limit ≤ room) where
       (λ e. rw (e, same-lay limit room w r memory 416 [] (scan text).items (none-counted limit room w r memory))
       (wider-laid (lay memory limit 416 [] (scan text).items) (scan text)
       (few-laid limit room w r memory 416 [] (scan text).items (none-counted limit room w r memory)))) (λ e. rw e (wider-refuse 24 0))
-
--- ---- the keys that serve a table of so many records
-
-pub assembles : {text memory : List ℕ} {labels : List Label} {answer : Assembled} {memory' keys : List ℕ} {labels' : List Label}
-    → Serves (assembled text (length memory) (length labels)) (length labels) answer memory' keys → labels' ≡ table_of keys (length labels) → Assembles
-    text memory labels answer memory' labels'
-assembles s e = record { answers = s.answers; tells = ap numbers s.answers; fills = s.fills; tables = e ∙ s.tables }
-
-pub loads : {text memory : List ℕ} (room : ℕ) {labels : List Label} {answer : Assembled} {memory' : List ℕ} {labels' : List Label}
-    → room ≡ length labels → Assembles text memory labels answer memory' labels' → Loads (assembled text (length memory) room) answer memory'
-loads {text} {memory} room {labels} {answer} {memory'} e a = subst (λ (n : ℕ). Loads (assembled text (length memory) n) answer memory') (sym e)
-    (record { answers = a.answers; tells = a.tells; fills = a.fills })
-
-module _ (text memory : List ℕ) {answer : Assembled} {memory' : List ℕ} where
-  pub serves-within : (keys : List ℕ) (room : ℕ) → length keys ≡ 32767 → room < 32767 → {part part' : List ℕ} (rest : List ℕ)
-      → part ≡ take (room - 0) keys → length part' ≡ length part
-      → AssemblesKeys text memory part answer memory' part' → Serves (assembled text (length memory) room) room answer memory' (part' ++ rest)
-  serves-within keys room n h {part} {part'} rest p s a =
-      let k : length part ≡ room = ap length p ∙ ap (λ (i : ℕ). length (take i keys)) (sub-zero room) ∙ length-take-le room keys (omega (arith, n, h))
-      in
-      let g : Gives (assembled text (length memory) room) answer memory' part' = rw k at a.gives in
-      let e : length part' ≡ room = s ∙ k in
-      let t : take room (part' ++ rest) ≡ part' = take_at part' rest room e in
-      let m : length (part' ++ rest) ≡ length part' + length rest = length-append part' rest in
-      record { answers = g.answers; fills = g.fills; tables = table-within (part' ++ rest) room (omega (arith, m, e)) ∙ ap records t ∙ g.tables }
-
-  pub serves-all : (keys : List ℕ) (room : ℕ) {keys' : List ℕ} → length keys ≡ 32767 → 32767 ≤ room → length keys' ≡ length keys
-      → AssemblesKeys text memory keys answer memory' keys' → Serves (assembled text (length memory) room) room answer memory' keys'
-  serves-all keys room {keys'} n h s a =
-      let w : Wider (room - length keys) (assembled text (length memory) (length keys)) (assembled text (length memory) room) = wider text
-      (length memory) (length keys) room (omega (arith, n, h)) n in
-      let e : length keys' + (room - length keys) ≡ room = omega (arith, n, s, h) in
-      record {
-        answers = a.gives.answers ∙ sym w.answers;
-        fills = a.gives.fills ∙ sym w.fills;
-        tables = ap (table_of keys') (sym e) ∙ table-past keys' (room - length keys) ∙
-            ap (λ (l : List Label). l ++ replicate (room - length keys) vacant) a.gives.tables ∙ sym w.tables;
-      }

@@ -14,7 +14,7 @@ use Rattle.assembler.specs.Words.{operand_in_range, in_range, size}
 use Rattle.assembler.specs.declared.Label.{Label}
 use Rattle.assembler.specs.Layout.{defined, noted, Laid, laid, refused, on_fault, misplaced, fault, lay, uses, known, unknowns}
 use Rattle.assembler.specs.Assemble.{refuse, accept, on_unknowns, on_laid, assembled}
-use Rattle.assembler.specs.declared.Assembled.TheVariants.{Refused}
+use Rattle.std.specs.Prelude.{Err}
 
 -- ---- the labels by their numbers
 
@@ -124,20 +124,20 @@ known-all labels (i ∷ is) p h = rw (defined-seen labels (uses i), h.0) (known-
 
 module _ (is : List Item) (sound : AllSound is) (clean : Clean [] is) (known-labels : AllKnown (labels_of is) is) (memory room : ℕ) where
   answered : {o : Laid} → Lays memory room o (labels_of is) → {r : Refusal}
-      → (on_laid (render_all is) memory room o (record { items = places 2 is; ending = whole })).answer ≡ Refused r
+      → (on_laid (render_all is) memory room o (record { items = places 2 is; ending = whole })).answer ≡ Err r
       → (r.number ≡ 24) ⊎ (r.number ≡ 25)
   unfolding refuse accept refusal
   answered (lays labels end e) {r} h = let k : unknowns labels (places 2 is) ≡ [] = known-all labels is 2 (rw e known-labels) in
-      let z : (on_unknowns (render_all is) memory room [] labels end (places 2 is)).answer ≡ Refused r = rw k at h in
+      let z : (on_unknowns (render_all is) memory room [] labels end (places 2 is)).answer ≡ Err r = rw k at h in
       contradiction cc
   answered (long place) h = inl cc
   answered (many place) h = inr cc
 
-  pub rendered-only : (r : Refusal) → (assembled (render_all is) memory room).answer ≡ Refused r → (r.number ≡ 24) ⊎ (r.number ≡ 25)
+  pub rendered-only : (r : Refusal) → (assembled (render_all is) memory room).answer ≡ Err r → (r.number ≡ 24) ⊎ (r.number ≡ 25)
   unfolding assembled refuse refusal numbers_of
   rendered-only r h = by_cases (leb 512 memory && leb memory 32768)
       (λ e. answered (lay-clean memory room is 2 416 [] clean) (rw (e, rendered is sound) at h))
-      (λ e. let z : Refused (refusal (render_all is) 24 0) ≡ Refused r = rw e at h in inl cc)
+      (λ e. let z : Err (refusal (render_all is) 24 0) ≡ Err r = rw e at h in inl cc)
 
 -- ---- a closed instance: 1: JL1 D7 G1L1
 
@@ -149,7 +149,7 @@ unfolding sample
 sample-sound =
     (omega arith, (record { eight = omega arith; sound = omega arith }, (omega arith, (record { first = omega arith; second = omega arith }, tt))))
 
-sample-only : (memory room : ℕ) (r : Refusal) → (assembled (render_all sample) memory room).answer ≡ Refused r → (r.number ≡ 24) ⊎ (r.number ≡ 25)
+sample-only : (memory room : ℕ) (r : Refusal) → (assembled (render_all sample) memory room).answer ≡ Err r → (r.number ≡ 24) ⊎ (r.number ≡ 25)
 unfolding sample in_range operand_in_range uses seen labels_of
 sample-only memory room r h =
     rendered-only sample sample-sound ((refl, refl, (refl, tt, (refl, tt, (refl, tt, tt))))) (refl, (refl, (refl, (refl, tt)))) memory room r h

@@ -1,16 +1,14 @@
 -- What `assemble` answers and leaves in the lent memory and label table (document 01, "Start", "Assembly text", "Refusal numbers").
 use Rattle.std.specs.Prelude.{ℕ, ◌-◌, not, cond, ◌&&◌, ◌≡◌, List, [], ◌∷◌, ◌++◌, length, set, replicate, eqb, leb}
+use Rattle.std.specs.Prelude.{Option, Some, None, Result, Ok, Err}
 use Rattle.words.specs.Globals.{no_globals}
 use Rattle.text.specs.Line.{refusal}
+use Rattle.text.specs.declared.Refusal.{Refusal}
 use Rattle.items.specs.Item.{Item, label, instruction, constant, string, global, Placed}
 use Rattle.items.specs.Scan.{Ending, whole, unreadable, Scan, scan}
 use Rattle.assembler.specs.Words.{words}
 use Rattle.assembler.specs.Layout.{vacant, defined, address_of, Laid, laid, refused, lay, unknowns}
 use Rattle.assembler.specs.declared.Label.{Label}
-use Rattle.assembler.specs.declared.Found.{Found}
-use Rattle.assembler.specs.declared.Found.TheVariants.{At, Missing}
-use Rattle.assembler.specs.declared.Assembled.{Assembled}
-use Rattle.assembler.specs.declared.Assembled.TheVariants.{Accepted, Refused}
 
 -- words 0 to 7, and the eight zeros after them
 abbrev pub start : List ℕ
@@ -39,20 +37,20 @@ image memory labels items end = start ++ globals labels no_globals items ++ prog
 
 -- the answer, the memory and the label table
 pub record Assembly : Type 0 where
-  pub answer : Assembled
+  pub answer : Result ℕ Refusal
   pub memory : List ℕ
   pub table : List Label
 
 module _ (text : List ℕ) (memory room : ℕ) where
   -- refused: memory and label table are all zeros
   unfoldable pub refuse : (number place : ℕ) → Assembly
-  refuse number place = record { answer = Refused (refusal text number place); memory = replicate memory 0; table = replicate room vacant }
+  refuse number place = record { answer = Err (refusal text number place); memory = replicate memory 0; table = replicate room vacant }
 
   -- accepted: labels in text order in the table, and the first stack word
   unfoldable pub accept : List Label → (end : ℕ) → List Placed → Assembly
   accept labels end items =
       record {
-        answer = Accepted end;
+        answer = Ok end;
         memory = image memory labels items end;
         table = labels ++ replicate (room - length labels) vacant;
       }
@@ -78,16 +76,16 @@ module _ (text : List ℕ) (memory room : ℕ) where
       (refuse 24 0)
 
 -- a label's address in a table, if it is there; 0 is no label's number, but that of the vacant records
-unfoldable pub looked_up : List Label → ℕ → Found
-looked_up table n = cond (defined table n && not (eqb n 0)) (At (address_of table n)) Missing
+unfoldable pub looked_up : List Label → ℕ → Option ℕ
+looked_up table n = cond (defined table n && not (eqb n 0)) (Some (address_of table n)) None
 
 -- document 01's numbers of an answer: 0, the first stack word, and no line; or the refusal's number, byte place and line
-abbrev pub numbers : Assembled → List ℕ
-numbers (Accepted first) = 0 ∷ first ∷ 0 ∷ []
-numbers (Refused r) = r.number ∷ r.place ∷ r.line ∷ []
+abbrev pub numbers : Result ℕ Refusal → List ℕ
+numbers (Ok first) = 0 ∷ first ∷ 0 ∷ []
+numbers (Err r) = r.number ∷ r.place ∷ r.line ∷ []
 
 -- what the function answers and leaves is what the definition gives
-pub record Assembles (text memory : List ℕ) (table : List Label) (answer : Assembled) (memory' : List ℕ) (table' : List Label) : Type 0 where
+pub record Assembles (text memory : List ℕ) (table : List Label) (answer : Result ℕ Refusal) (memory' : List ℕ) (table' : List Label) : Type 0 where
   pub answers : answer ≡ (assembled text (length memory) (length table)).answer
   pub tells : numbers answer ≡ numbers (assembled text (length memory) (length table)).answer
   pub fills : memory' ≡ (assembled text (length memory) (length table)).memory

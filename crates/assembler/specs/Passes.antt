@@ -1,8 +1,12 @@
--- What the parts of `assemble` give: the code's items as the definitions have them, a table's keys and an index as records, and
+-- What the parts of `assemble` give: the code's items as the definitions have them, an index as records, and
 -- what each pass answers and leaves.
-use Rattle.std.specs.Prelude.{ℕ, zero, suc, ◌+◌, ◌-◌, ◌/◌, ◌%◌, ◌<◌, ◌≤◌, true, false, cond, ◌≡◌, List, [], ◌∷◌, ◌++◌, map, length, get_or, set}
-use Rattle.std.specs.Prelude.{replicate, take, drop, eqb, leb, ltb}
+use Rattle.std.specs.Prelude.{ℕ, zero, suc, ◌+◌, ◌-◌, ◌/◌, ◌<◌, ◌≤◌, true, false, cond, ◌≡◌, List, [], ◌∷◌, ◌++◌, length, set}
+use Rattle.std.specs.Prelude.{replicate, take, drop, leb, ltb, Option, Some, None, Result, Ok, Err}
 use Rattle.std.proofs.lemmas.List.Edits.{sets}
+use Rattle.text.specs.declared.Refusal.{Refusal}
+use Rattle.text.specs.declared.faults.Fault.{Fault}
+use Rattle.text.specs.declared.faults.Fault.TheVariants as F
+use Rattle.text.specs.Faults.{number_of}
 use Rattle.text.specs.Quoted.{closed, characters_of, quoted}
 use Rattle.items.specs.Item as I
 use Rattle.items.specs.Scan.{Ending, whole, unreadable, Scan}
@@ -13,18 +17,11 @@ use Rattle.items.specs.declared.Base.TheVariants as B
 use Rattle.items.specs.declared.Item.{Item}
 use Rattle.items.specs.declared.Item.TheVariants as C
 use Rattle.assembler.specs.Words.{in_range, signed, size, words}
-use Rattle.assembler.specs.Layout.{defined, address_of, noted, Laid, laid, refused, lay, known, unknowns}
-use Rattle.assembler.specs.Assemble.{Assembly, assembled, numbers}
+use Rattle.assembler.specs.Layout.{vacant, defined, address_of, noted, Laid, laid, refused, lay, known, unknowns}
+use Rattle.assembler.specs.Assemble.{Assembly, refuse, numbers}
 use Rattle.assembler.specs.declared.Label.{Label}
-use Rattle.assembler.specs.declared.Found.{Found}
-use Rattle.assembler.specs.declared.Found.TheVariants.{At, Missing}
-use Rattle.assembler.specs.declared.Placing.{Placing}
-use Rattle.assembler.specs.declared.Placing.TheVariants as P
-use Rattle.assembler.specs.declared.Step.{Step}
-use Rattle.assembler.specs.declared.Step.TheVariants as S
-use Rattle.assembler.specs.declared.Written.{Written}
-use Rattle.assembler.specs.declared.Written.TheVariants as W
-use Rattle.assembler.specs.declared.Assembled.{Assembled}
+use Rattle.assembler.specs.declared.Faulted.{Faulted}
+use Rattle.assembler.specs.declared.Index.{Index}
 
 -- the code's items as the definitions' ones; a string's characters, which the code does not hold, are given by their number
 unfoldable pub operand_of : Operand → I.Operand
@@ -47,15 +44,8 @@ item_of cs (C.Global n m) = I.global n m
 abbrev pub blank : ℕ → List ℕ
 blank n = replicate n 0
 
--- the record that a key of the table stands for
-abbrev pub record_of : ℕ → Label
-record_of key = record { number = key / 65536; address = key % 65536 }
-
-unfoldable pub records : List ℕ → List Label
-records keys = map record_of keys
-
-unfoldable pub as_found : List Label → ℕ → Found
-as_found labels n = cond (defined labels n) (At (address_of labels n)) Missing
+unfoldable pub as_found : List Label → ℕ → Option ℕ
+as_found labels n = cond (defined labels n) (Some (address_of labels n)) None
 
 -- the records that an index stands for, by number: it has the address of each number from `n` on, and 0 for none
 unfoldable pub listed_from : (n : ℕ) → List ℕ → List Label
@@ -63,18 +53,17 @@ listed_from n [] = []
 listed_from n (zero ∷ index) = listed_from (suc n) index
 listed_from n (suc a ∷ index) = record { number = n; address = suc a } ∷ listed_from (suc n) index
 
-abbrev pub listed : List ℕ → List Label
-listed index = listed_from 0 index
+abbrev pub listed : Index → List Label
+listed index = listed_from 0 index.addresses
+
+abbrev pub no_index : Index
+no_index = record { addresses = replicate 32768 0; count = 0 }
 
 -- an index has as many labels as some records, and tells the same of every number
-pub record Indexes (index : List ℕ) (labels : List Label) : Type 0 where
-  pub sized : length index ≡ 32768
+pub record Indexes (index : Index) (labels : List Label) : Type 0 where
+  pub sized : length index.addresses ≡ 32768
   pub counts : length (listed index) ≡ length labels
   pub tells : (n : ℕ) → as_found (listed index) n ≡ as_found labels n
-
--- what a record with the number looked for says
-abbrev pub told_by : Label → Found
-told_by label = cond (eqb label.number 0) Missing (At label.address)
 
 -- the two causes of `misplaced`
 abbrev pub label_fault : (room : ℕ) → List Label → ℕ → ℕ
@@ -83,26 +72,31 @@ label_fault room labels n = cond (defined labels n) 21 (cond (leb room (length l
 abbrev pub beyond : (memory at words : ℕ) → ℕ
 beyond memory at words = cond (ltb memory (at + words)) 24 0
 
+-- document 01's number of what the code finds: 0 for no fault
+abbrev pub fault_number : Result (Unit {0}) Fault → ℕ
+fault_number (Ok u) = 0
+fault_number (Err f) = number_of f
+
 -- ---- the first pass
 
--- the first `count` keys are labels', and the others are zeros
-pub record Table (count : ℕ) (table : List ℕ) : Type 0 where
+-- the first `count` records are labels', and the others are vacant
+pub record Table (count : ℕ) (table : List Label) : Type 0 where
   pub fits : count ≤ length table
-  pub zeros : table ≡ take count table ++ replicate (length table - count) 0
+  pub others : table ≡ take count table ++ replicate (length table - count) vacant
 
--- an item that is a label has a record, and a number that a key can hold and that is no label's yet
-pub record Notable (at : ℕ) (item : Item) (count : ℕ) (table index : List ℕ) : Type 0 where
-  pub tabled : Table count table
-  pub indexed : Indexes index (records (take count table))
+-- an item that is a label has a record, and a number that an index has and that is no label's yet
+pub record Notable (at : ℕ) (item : Item) (table : List Label) (index : Index) : Type 0 where
+  pub tabled : Table index.count table
+  pub indexed : Indexes index (take index.count table)
   pub low : (0 < at) × (at < 65536)
-  pub free : (n : ℕ) → item ≡ C.Label n → (n < 32768) × (count < length table) × (defined (records (take count table)) n ≡ false)
+  pub free : (n : ℕ) → item ≡ C.Label n → (n < 32768) × (index.count < length table) × (defined (take index.count table) n ≡ false)
 
--- the table, its count and the index after an item
-pub record Notes (at : ℕ) (item : I.Item) (count : ℕ) (table : List ℕ) (count' : ℕ) (table' index' : List ℕ) : Type 0 where
+-- the table and the index after an item
+pub record Notes (at : ℕ) (item : I.Item) (table : List Label) (index : Index) (table' : List Label) (index' : Index) : Type 0 where
   pub same : length table' ≡ length table
-  pub tabled : Table count' table'
-  pub notes : records (take count' table') ≡ noted at (records (take count table)) item
-  pub indexed : Indexes index' (records (take count' table'))
+  pub tabled : Table index'.count table'
+  pub notes : take index'.count table' ≡ noted at (take index.count table) item
+  pub indexed : Indexes index' (take index'.count table')
 
 -- a text that ends wrongly is refused where it does, after every fault of its items
 unfoldable pub after_ending : Ending → Laid → Laid
@@ -111,24 +105,23 @@ after_ending (unreadable place) (laid labels end) = refused 20 place
 after_ending (unreadable place) (refused number first) = refused number first
 
 -- what the pass's answer and the labels say
-unfoldable pub laid_by : Placing → List Label → Laid
-laid_by (P.Placed end) labels = laid labels end
-laid_by (P.Fault number place) labels = refused number place
+unfoldable pub laid_by : Result ℕ Faulted → List Label → Laid
+laid_by (Ok end) labels = laid labels end
+laid_by (Err f) labels = refused (number_of f.fault) f.place
 
--- `count` labels are in the table, and the index has the same ones
-pub record Lays (memory : ℕ) (s : Scan) (table : List ℕ) (answer : Placing) (table' index' : List ℕ) : Type 0 where
-  pub count : ℕ
+-- the labels are in the table, and the index has the same ones
+pub record Lays (memory : ℕ) (s : Scan) (table : List Label) (answer : Result ℕ Faulted) (table' : List Label) (index' : Index) : Type 0 where
   pub same : length table' ≡ length table
-  pub answers : laid_by answer (records (take count table')) ≡ after_ending s.ending (lay memory (length table) 416 [] s.items)
-  pub tabled : Table count table'
-  pub indexed : Indexes index' (records (take count table'))
-  pub fits : (end : ℕ) → answer ≡ P.Placed end → end ≤ memory
+  pub answers : laid_by answer (take index'.count table') ≡ after_ending s.ending (lay memory (length table) 416 [] s.items)
+  pub tabled : Table index'.count table'
+  pub indexed : Indexes index' (take index'.count table')
+  pub fits : (end : ℕ) → answer ≡ Ok end → end ≤ memory
 
 -- ---- the second pass
 
 -- an operand's word, if its label is known
-unfoldable pub value_of : List Label → I.Operand → Found
-value_of labels (I.number minus size) = At (signed minus size)
+unfoldable pub value_of : List Label → I.Operand → Option ℕ
+value_of labels (I.number minus size) = Some (signed minus size)
 value_of labels (I.address n) = as_found labels n
 
 -- the memory after an item that stands at an address
@@ -158,9 +151,9 @@ pub record Writable (i : I.Item) (at : ℕ) (memory : List ℕ) : Type 0 where
   pub fits : at + size i ≤ length memory
   pub globals : 416 ≤ length memory
 
-pub record Writes (labels : List Label) (i : I.Item) (at : ℕ) (memory : List ℕ) (answer : Step) (memory' : List ℕ) : Type 0 where
+pub record Writes (labels : List Label) (i : I.Item) (at : ℕ) (memory : List ℕ) (answer : Option ℕ) (memory' : List ℕ) : Type 0 where
   pub same : length memory' ≡ length memory
-  pub answers : answer ≡ cond (known labels i) (S.To (at + size i)) S.Unknown
+  pub answers : answer ≡ cond (known labels i) (Some (at + size i)) None
   pub writes : known labels i ≡ true → memory' ≡ put labels at memory i
 
 -- the characters between double quotes from a place on
@@ -189,51 +182,43 @@ unfoldable pub FitsAll : (memory at : ℕ) → List I.Placed → Type 0
 FitsAll memory at [] = Unit {0}
 FitsAll memory at (p ∷ ps) = (in_range p.item ≡ true) × (at + size p.item ≤ memory) × FitsAll memory (at + size p.item) ps
 
-unfoldable pub as_written : List ℕ → Written
-as_written [] = W.Whole
-as_written (place ∷ places) = W.Unknown place
+unfoldable pub as_written : List ℕ → Result (Unit {0}) Faulted
+as_written [] = Ok tt
+as_written (place ∷ places) = Err (record { fault = F.UnknownLabel; place = place })
 
-pub record WritesAll (labels : List Label) (s : Scan) (memory : List ℕ) (answer : Written) (memory' : List ℕ) : Type 0 where
+pub record WritesAll (labels : List Label) (s : Scan) (memory : List ℕ) (answer : Result (Unit {0}) Faulted) (memory' : List ℕ) : Type 0 where
   pub same : length memory' ≡ length memory
   pub answers : answer ≡ as_written (unknowns labels s.items)
-  pub writes : answer ≡ W.Whole → memory' ≡ filled labels 416 memory s.items
+  pub writes : answer ≡ Ok tt → memory' ≡ filled labels 416 memory s.items
 
 -- ---- both
 
 abbrev pub Zeros : List ℕ → Type 0
 Zeros l = l ≡ replicate (length l) 0
 
+abbrev pub Vacant : List Label → Type 0
+Vacant l = l ≡ replicate (length l) vacant
+
 -- memory and table before the passes
-pub record Ready (memory table : List ℕ) : Type 0 where
+pub record Ready (memory : List ℕ) (table : List Label) : Type 0 where
   pub least : 512 ≤ length memory
   pub most : length memory ≤ 32768
   pub memory_zeros : Zeros memory
-  pub table_zeros : Zeros table
+  pub table_vacant : Vacant table
 
-pub record Gives (a : Assembly) (answer : Assembled) (memory table : List ℕ) : Type 0 where
+pub record Gives (a : Assembly) (answer : Result ℕ Refusal) (memory : List ℕ) (table : List Label) : Type 0 where
   pub answers : answer ≡ a.answer
   pub fills : memory ≡ a.memory
-  pub tables : records table ≡ a.table
+  pub tables : table ≡ a.table
 
--- the whole on keys
-pub record AssemblesKeys (text memory table : List ℕ) (answer : Assembled) (memory' table' : List ℕ) : Type 0 where
-  pub gives : Gives (assembled text (length memory) (length table)) answer memory' table'
-
--- ---- the lent records
-
--- so many records of the keys, with vacant ones past the last key
-unfoldable pub table_of : List ℕ → ℕ → List Label
-table_of keys zero = []
-table_of keys (suc n) = table_of keys n ++ (record_of (get_or keys n 0) ∷ [])
-
--- the passes' answer for a table of so many records, with the keys to fill it from
-pub record Serves (a : Assembly) (room : ℕ) (answer : Assembled) (memory keys : List ℕ) : Type 0 where
-  pub answers : answer ≡ a.answer
-  pub fills : memory ≡ a.memory
-  pub tables : table_of keys room ≡ a.table
+-- what both passes give of an assembly: all of it, or the fault that it is refused for
+abbrev pub Passes : (text : List ℕ) (memory room : ℕ) → Assembly → Result ℕ Faulted → (memory' : List ℕ) (table' : List Label) → Type 0
+Passes text memory room a (Ok end) memory' table' = Gives a (Ok end) memory' table'
+Passes text memory room a (Err f) memory' table' =
+    (length memory' ≡ memory) × (length table' ≡ room) × (a ≡ refuse text memory room (number_of f.fault) f.place)
 
 -- what a program is given that needs no table
-pub record Loads (a : Assembly) (answer : Assembled) (memory : List ℕ) : Type 0 where
+pub record Loads (a : Assembly) (answer : Result ℕ Refusal) (memory : List ℕ) : Type 0 where
   pub answers : answer ≡ a.answer
   pub tells : numbers answer ≡ numbers a.answer
   pub fills : memory ≡ a.memory

@@ -11,7 +11,7 @@ use Rattle.machine.proofs.Parts.{came-out}
 use Rattle.machine.specs.declared.Ran.{Ran}
 use Rattle.assembler.specs.Assemble.{Assembly, Assembles, assembled, numbers}
 use Rattle.assembler.specs.declared.Label.{Label}
-use Rattle.assembler.specs.declared.Assembled.TheVariants as A
+use Rattle.std.specs.Prelude.{Ok}
 use Rattle.language.specs.State.{State}
 use Rattle.language.specs.Program.{accepted, refused}
 use Rattle.language.specs.Whole.{refusal_in, strings_in, SourceRunEnds}
@@ -48,7 +48,7 @@ module _ {source scratch scratch' text text' : List ℕ} {answer : Compiled} (ca
   -- "the machine does what the source run does", within 16 instructions a step plus 16
 
   pub machine_follows : {n : ℕ} → answer ≡ C.Accepted n
-      → {memory memory' : List ℕ} {labels labels' : List Label} {first : ℕ} → Assembles (take n text') memory labels (A.Accepted first) memory'
+      → {memory memory' : List ℕ} {labels labels' : List Label} {first : ℕ} → Assembles (take n text') memory labels (Ok first) memory'
       labels'
       → {input : List ℕ} {s : State} → SourceRunEnds source (placement_of source labels' first) (length memory) input s → s.used + 8 ≤ length memory
       → (output : List ℕ) (budget : ℕ) {output' memory'' : List ℕ} {ran : Ran} → Ends (run first memory' input output budget) ran memory'' output'
@@ -87,7 +87,7 @@ compiled = record {
 
 assembly : Assembles (take (length (text_of source)) (text_after source 100 (decided source 1000 100))) (replicate 512 7)
     (replicate 4 (record { number = 7; address = 7 }))
-    (A.Accepted 421) (assembled (text_of source) 512 4).memory (assembled (text_of source) 512 4).table
+    (Ok 421) (assembled (text_of source) 512 4).memory (assembled (text_of source) 512 4).table
 assembly = let same = ap (λ (t : List ℕ). assembled t 512 4) (front compiled refl).text-is in
     let accepts-it = ap (λ (t : List ℕ). (assembled t 512 4).answer) ((front compiled refl).text-is ∙ written) ∙ answers in
     record {

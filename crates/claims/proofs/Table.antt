@@ -18,7 +18,7 @@ use Rattle.text.specs.Packed.{pairs}
 use Rattle.assembler.specs.Layout.{defined, address_of, noted, misplaced, fault, lay, uses, known, unknowns}
 use Rattle.assembler.specs.Assemble.{globals_after, globals, program, image, refuse, accept, assembled}
 use Rattle.words.specs.Globals.{no_globals}
-use Rattle.assembler.specs.declared.Assembled.TheVariants.{Accepted}
+use Rattle.std.specs.Prelude.{Ok}
 use Rattle.language.specs.Kinds.{NAME, NUMBER, OPEN, CLOSE, SEMICOLON, SLASH, REM}
 use Rattle.language.specs.Operators.{apply_dyadic}
 use Rattle.language.specs.Symbols.{Symbol}
@@ -35,7 +35,7 @@ record Fits (memory : List ℕ) : Type 0 where
 
 -- a text is accepted with just these program words, from 416 on: the stack begins behind them
 record Makes (text : String) (program-words : List ℕ) : Type 0 where
-  accepts : (assembled (bytes text) 512 0).answer ≡ Accepted (416 + length program-words)
+  accepts : (assembled (bytes text) 512 0).answer ≡ Ok (416 + length program-words)
   stand : take (length program-words) (drop 416 (assembled (bytes text) 512 0).memory) ≡ program-words
 
 abbrev symbol : (kind value place : ℕ) → Symbol

@@ -1,7 +1,7 @@
 -- Demand 3 for the compiler's text, where its items can be read back and its functions are formed.
 use Rattle.laws.proofs.Basics.{ℕ, suc, ◌+◌, ◌≤◌, ◌≡◌, refl, List, length, arith}
 use Rattle.assembler.specs.Assemble.{assembled}
-use Rattle.assembler.specs.declared.Assembled.TheVariants.{Accepted}
+use Rattle.std.specs.Prelude.{Ok}
 use Rattle.assembler.specs.declared.Label.{Label}
 use Rattle.language.specs.State.{State}
 use Rattle.language.specs.Whole.{functions_in, strings_in, SourceRunEnds}
@@ -16,7 +16,7 @@ use Rattle.code.proofs.AnyBudget.{Holds, follows}
 use Rattle.language.proofs.Held.{ended-globals, ended-strings}
 use Rattle.language.specs.Resolved.{Fun}
 
-module _ (source : List ℕ) (good : Good source) (memory room first : ℕ) (accepted : (assembled (text_of source) memory room).answer ≡ Accepted first)
+module _ (source : List ℕ) (good : Good source) (memory room first : ℕ) (accepted : (assembled (text_of source) memory room).answer ≡ Ok first)
     (input : List ℕ) (s : State)
     (runs : SourceRunEnds source (placement_of source (assembled (text_of source) memory room).table first) memory input s)
     (below : s.used + 8 ≤ memory) where

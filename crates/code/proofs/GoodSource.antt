@@ -9,7 +9,7 @@ use Rattle.language.specs.Heights.{of_body, heights_of, greatest, largest_height
 use Rattle.language.specs.Program.{begin, Named, functions_of, height_faults, accepted}
 use Rattle.language.specs.Whole.{refusal_of, funs, strings_in}
 use Rattle.assembler.specs.Assemble.{assembled}
-use Rattle.assembler.specs.declared.Assembled.TheVariants.{Accepted}
+use Rattle.std.specs.Prelude.{Ok}
 use Rattle.code.specs.Faithful.{placement_of, Faithful}
 use Rattle.code.specs.Placed.{WellPlaced}
 use Rattle.code.specs.Generate.{body_labels, body_code, functions_code, strings_code, starts_code, start_in, items_of, text_of, nowhere_else}
@@ -129,7 +129,7 @@ compiled-faithful source scratch h = faithful source (good source (facts source 
 
 -- and the placement rules, wherever its text is assembled
 pub compiled-placed : (source : List ℕ) (scratch : ℕ) → refusal_of source scratch ≡ accepted → (memory room first : ℕ)
-    → (h : (assembled (text_of source) memory room).answer ≡ Accepted first)
+    → (h : (assembled (text_of source) memory room).answer ≡ Ok first)
     → WellPlaced source (placement_of source (assembled (text_of source) memory room).table first) (assembled (text_of source) memory room).table
     (assembled (text_of source) memory room).memory
 compiled-placed source scratch a memory room first h = well_placed source (good source (facts source scratch a)) memory room first h

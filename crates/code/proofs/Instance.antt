@@ -34,7 +34,7 @@ use Rattle.text.specs.Packed.{pairs}
 use Rattle.assembler.specs.Layout.{vacant, defined, address_of, noted, misplaced, fault, lay, uses, known, unknowns}
 use Rattle.assembler.specs.Assemble.{globals_after, globals, program, image, refuse, accept, Assembly, assembled}
 use Rattle.words.specs.Globals.{no_globals}
-use Rattle.assembler.specs.declared.Assembled.TheVariants.{Accepted, Refused}
+use Rattle.std.specs.Prelude.{Ok, Err}
 use Rattle.language.specs.State.{Value, State, Result, unfinished, undefined, finished, returned, ok}
 use Rattle.code.specs.Faithful.{addresses_from, placement_of, Follows}
 use Rattle.code.proofs.Good.{Good}
@@ -85,7 +85,7 @@ unfolding line_of newlines refusal quoted character by_number by_digits escape h
     no_globals globals_after globals program image refuse accept assembled
 made room = assembled (bytes "$\n1:\nL65\nSP4\nLIG14\nK2\nX4\nG1L1\nZ\n") 512 room
 
-pub answers : (assembled (bytes "$\n1:\nL65\nSP4\nLIG14\nK2\nX4\nG1L1\nZ\n") 512 4).answer ≡ Accepted 421
+pub answers : (assembled (bytes "$\n1:\nL65\nSP4\nLIG14\nK2\nX4\nG1L1\nZ\n") 512 4).answer ≡ Ok 421
 unfolding made
 answers = refl
 
@@ -148,7 +148,7 @@ accepts = refl
 abbrev pub full : Refusal
 full = record { number = 25; line = 2; place = 2 }
 
-pub refuses : (assembled (bytes "$\n1:\nL65\nSP4\nLIG14\nK2\nX4\nG1L1\nZ\n") 512 0).answer ≡ Refused full
+pub refuses : (assembled (bytes "$\n1:\nL65\nSP4\nLIG14\nK2\nX4\nG1L1\nZ\n") 512 0).answer ≡ Err full
 unfolding made
 refuses = refl
 

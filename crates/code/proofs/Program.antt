@@ -13,7 +13,7 @@ use Rattle.assembler.specs.declared.Label.{Label}
 use Rattle.assembler.specs.Layout.{vacant, address_of}
 use Rattle.assembler.specs.Assemble.{start, globals_after, globals, program, image, accept, Assembly, assembled}
 use Rattle.words.specs.Globals.{no_globals}
-use Rattle.assembler.specs.declared.Assembled.TheVariants.{Accepted}
+use Rattle.std.specs.Prelude.{Ok}
 use Rattle.assembler.proofs.Acceptance.{Acceptance, acceptance, Proper}
 use Rattle.language.specs.Resolved.{Fun, Start, nowhere, in_global}
 use Rattle.language.specs.Run.{position_of, no_fun}
@@ -168,7 +168,7 @@ pub record Built (fs : List Fun) (ss : List (List ℕ)) (memory room first : ℕ
   pub fills : length mem ≡ memory
 
 pub built : (fs : List Fun) (ss : List (List ℕ)) (memory room first : ℕ) → AllSound (items_of fs ss)
-    → (assembled (render_all (items_of fs ss)) memory room).answer ≡ Accepted first
+    → (assembled (render_all (items_of fs ss)) memory room).answer ≡ Ok first
     → Built fs ss memory room first (assembled (render_all (items_of fs ss)) memory room).memory
     (assembled (render_all (items_of fs ss)) memory room).table
 unfolding accept

@@ -10,7 +10,7 @@ use Rattle.items.specs.Render.{render, render_all}
 use Rattle.items.proofs.Rendered.{places, rendered}
 use Rattle.assembler.specs.Layout.{used_by, uses}
 use Rattle.assembler.specs.Assemble.{assembled}
-use Rattle.assembler.specs.declared.Assembled.TheVariants.{Refused}
+use Rattle.std.specs.Prelude.{Err}
 use Rattle.assembler.proofs.Rendering.{seen, labels_of, Clean, AllKnown, rendered-only}
 use Rattle.language.specs.Program.{accepted}
 use Rattle.language.specs.Whole.{refusal_of, funs, functions_in, strings_in}
@@ -166,7 +166,7 @@ module _ (source : List ℕ) (x : Facts source) where
   unfolding times
   none k = refl
 
-  items-only : (memory room : ℕ) (r : Refusal) → (assembled (render_all items) memory room).answer ≡ Refused r → (r.number ≡ 24) ⊎ (r.number ≡ 25)
+  items-only : (memory room : ℕ) (r : Refusal) → (assembled (render_all items) memory room).answer ≡ Err r → (r.number ≡ 24) ⊎ (r.number ≡ 25)
   items-only memory room r h = rendered-only items (all_sound (total source x) (total-low source x) items-right)
       (clean_all (total source x) (total-low source x) [] items items-right (λ k. omega (arith, at-most-once k, none k)))
       (known-all (total source x) (total-low source x) (labels_of items) once items-right) memory room r h
@@ -177,7 +177,7 @@ unfolding text_of
 few_labels source scratch a = rw (same-items source (facts source scratch a)) (labels-most source (facts source scratch a))
 
 pub refused_only : (source : List ℕ) (scratch : ℕ) → refusal_of source scratch ≡ accepted → (memory room : ℕ) (r : Refusal)
-    → (assembled (text_of source) memory room).answer ≡ Refused r
+    → (assembled (text_of source) memory room).answer ≡ Err r
     → (r.number ≡ 24) ⊎ (r.number ≡ 25)
 unfolding text_of
 refused_only source scratch a memory room r h =

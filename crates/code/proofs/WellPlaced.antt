@@ -12,7 +12,7 @@ use Rattle.text.specs.Packed.{packed}
 use Rattle.assembler.specs.declared.Label.{Label}
 use Rattle.assembler.specs.Layout.{vacant, defined, address_of, noted}
 use Rattle.assembler.specs.Assemble.{assembled}
-use Rattle.assembler.specs.declared.Assembled.TheVariants.{Accepted}
+use Rattle.std.specs.Prelude.{Ok}
 use Rattle.language.specs.Resolved.{Fun}
 use Rattle.language.specs.Whole.{functions_in, strings_in}
 use Rattle.code.specs.Faithful.{addresses_from, placement_of}
@@ -206,7 +206,7 @@ module _
   string-apart i j l h = rw (string-entry i (omega arith), string-entry j h) (strings-apart Γ (suc (length fs)) ss (G.standing [] b).strings i j l h)
 
 module _ (source : List ℕ) (good : Good source) (memory room first : ℕ)
-    (accepted : (assembled (text_of source) memory room).answer ≡ Accepted first) where
+    (accepted : (assembled (text_of source) memory room).answer ≡ Ok first) where
   abbrev table : List Label
   table = (assembled (text_of source) memory room).table
 

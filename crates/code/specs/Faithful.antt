@@ -12,7 +12,7 @@ use Rattle.machine.specs.Run.{Outcome, run}
 use Rattle.assembler.specs.Layout.{address_of}
 use Rattle.assembler.specs.Assemble.{assembled}
 use Rattle.assembler.specs.declared.Label.{Label}
-use Rattle.assembler.specs.declared.Assembled.TheVariants.{Accepted}
+use Rattle.std.specs.Prelude.{Ok}
 use Rattle.language.specs.State.{holds, State}
 use Rattle.language.specs.Run.{Placement}
 use Rattle.language.specs.Whole.{functions_in, strings_in, SourceRunEnds}
@@ -71,7 +71,7 @@ pub record Follows (strings : List (List ℕ)) (place : Placement) (s : State) (
 -- for every memory and label table with which the text is assembled, every input, and every source run that ends and uses none of the
 -- memory's last eight words
 pub record Faithful (source text : List ℕ) : Type 0 where
-  pub follows : (memory room first : ℕ) → (assembled text memory room).answer ≡ Accepted first
+  pub follows : (memory room first : ℕ) → (assembled text memory room).answer ≡ Ok first
       → (input : List ℕ) (s : State) → SourceRunEnds source (placement_of source (assembled text memory room).table first) memory input s
       → s.used + 8 ≤ memory
       → (output : List ℕ) (budget : ℕ)

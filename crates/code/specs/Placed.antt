@@ -8,7 +8,7 @@ use Rattle.assembler.specs.Words.{size}
 use Rattle.assembler.specs.Layout.{defined}
 use Rattle.assembler.specs.Assemble.{assembled}
 use Rattle.assembler.specs.declared.Label.{Label}
-use Rattle.assembler.specs.declared.Assembled.TheVariants.{Accepted, Refused}
+use Rattle.std.specs.Prelude.{Ok, Err}
 use Rattle.language.specs.Symbols as Y
 use Rattle.language.specs.Whole.{functions_in, strings_in}
 use Rattle.language.specs.Run.{Placement}
@@ -58,11 +58,11 @@ word_count (p ∷ ps) = size p.item + word_count ps
 
 -- ---- all the rules
 pub record Proper (source text : List ℕ) : Type 0 where
-  pub well_placed : (memory room first : ℕ) → (assembled text memory room).answer ≡ Accepted first
+  pub well_placed : (memory room first : ℕ) → (assembled text memory room).answer ≡ Ok first
       → WellPlaced source (placement_of source (assembled text memory room).table first) (assembled text memory room).table
       (assembled text memory room).memory
   pub few_words : word_count (scan text).items ≤ 8 * length (Y.scan source).symbols + 16 + string_words (strings_in source)
   pub few_labels : label_count (scan text).items ≤ length source + 8
   pub short : length text ≤ 64 * length source + 1024
   -- what the compiler writes is refused only by 24 or 25
-  pub refused_only : (memory room : ℕ) (r : Refusal) → (assembled text memory room).answer ≡ Refused r → (r.number ≡ 24) ⊎ (r.number ≡ 25)
+  pub refused_only : (memory room : ℕ) (r : Refusal) → (assembled text memory room).answer ≡ Err r → (r.number ≡ 24) ⊎ (r.number ≡ 25)

@@ -9,8 +9,7 @@ use Rattle.machine.specs.Answers.{Ends}
 use Rattle.machine.proofs.Parts.{came-out}
 use Rattle.machine.specs.declared.Ran.{Ran}
 use Rattle.assembler.specs.Passes.{Loads}
-use Rattle.assembler.specs.declared.Assembled.{Assembled}
-use Rattle.assembler.specs.declared.Assembled.TheVariants as A
+use Rattle.std.specs.Prelude.{Result, Ok, Err}
 use Rattle.language.specs.Program.{Refused, accepted, refused}
 use Rattle.language.specs.Whole.{strings_in}
 use Rattle.code.specs.Faithful.{placement_of, Follows}
@@ -24,18 +23,18 @@ use Rattle.execution.specs.Executes.{image, RanBy, RunsText, ExecutedBy, Deliver
 
 -- ---- a text
 
-module _ {text memory memory₁ input output : List ℕ} {budget : ℕ} {a : Assembled} (l : Loads (image text (length memory)) a memory₁) where
-  pub text-refused : {r : Refusal} → a ≡ A.Refused r → RunsText text memory memory₁ input output output budget (E.Unassembled r)
+module _ {text memory memory₁ input output : List ℕ} {budget : ℕ} {a : Result ℕ Refusal} (l : Loads (image text (length memory)) a memory₁) where
+  pub text-refused : {r : Refusal} → a ≡ Err r → RunsText text memory memory₁ input output output budget (E.Unassembled r)
   text-refused {r} e = record {
-    by = subst (λ (x : Assembled). RanBy (image text (length memory)) x memory₁ input output output budget (E.Unassembled r)) (sym e ∙ l.answers)
+    by = subst (λ (x : Result ℕ Refusal). RanBy (image text (length memory)) x memory₁ input output output budget (E.Unassembled r)) (sym e ∙ l.answers)
         (refl, l.fills, refl);
   }
 
-  pub text-ran : {first : ℕ} {ran : Ran} {memory₂ output₂ : List ℕ} → a ≡ A.Accepted first
+  pub text-ran : {first : ℕ} {ran : Ran} {memory₂ output₂ : List ℕ} → a ≡ Ok first
       → Ends (run first memory₁ input output budget) ran memory₂ output₂
       → RunsText text memory memory₂ input output output₂ budget (E.Ran ran)
   text-ran {first} {ran} {memory₂} {output₂} e x = record {
-    by = subst (λ (x : Assembled). RanBy (image text (length memory)) x memory₂ input output output₂ budget (E.Ran ran)) (sym e ∙ l.answers)
+    by = subst (λ (x : Result ℕ Refusal). RanBy (image text (length memory)) x memory₂ input output output₂ budget (E.Ran ran)) (sym e ∙ l.answers)
         (record {
           ran = ran;
           answers = refl;
@@ -98,11 +97,11 @@ module _ {source scratch scratch' text text' : List ℕ} {a : Compiled} (c : Com
           (came-out came) ((c.faithful (front e).accepts).follows (length memory) 32767 first k input s over below output budget);
     }
       where
-        go : (y : Assembled) (first : ℕ) → y ≡ A.Accepted first
+        go : (y : Result ℕ Refusal) (first : ℕ) → y ≡ Ok first
             → RanBy (image (text_of source) (length memory)) y memory' input output output' budget x
             → Ends (run first (image (text_of source) (length memory)).memory input output budget) ran memory' output'
-        go (A.Refused w) first k z = contradiction cc
-        go (A.Accepted m) first k z = let u : m ≡ first = cc in let v : z.ran ≡ ran = cc in
+        go (Err w) first k z = contradiction cc
+        go (Ok m) first k z = let u : m ≡ first = cc in let v : z.ran ≡ ran = cc in
             subst (λ (j : ℕ). Ends (run j (image (text_of source) (length memory)).memory input output budget) ran memory' output') u
             (subst (λ (y : Ran). Ends (run m (image (text_of source) (length memory)).memory input output budget) y memory' output') v z.ends)
 

@@ -1,13 +1,12 @@
 -- What becomes of a source, an input and the lent buffers, for all of them. What came out is spoken of as it came out: the answer, and
 -- memory and output at the end.
-use Rattle.std.specs.Prelude.{ℕ, ◌+◌, ◌≤◌, ◌≡◌, List, length, replicate}
+use Rattle.std.specs.Prelude.{ℕ, ◌+◌, ◌≤◌, ◌≡◌, List, length, replicate, Result, Ok, Err}
 use Rattle.text.specs.Line.{refusal}
+use Rattle.text.specs.declared.Refusal.{Refusal}
 use Rattle.machine.specs.Run.{run}
 use Rattle.machine.specs.Answers.{Ends, outcome_of}
 use Rattle.machine.specs.declared.Ran.{Ran}
 use Rattle.assembler.specs.Assemble.{Assembly, assembled}
-use Rattle.assembler.specs.declared.Assembled.{Assembled}
-use Rattle.assembler.specs.declared.Assembled.TheVariants as A
 use Rattle.language.specs.State.{State}
 use Rattle.language.specs.Program.{Refused, accepted, refused}
 use Rattle.language.specs.Whole.{strings_in, SourceRunEnds}
@@ -29,9 +28,9 @@ pub record RanFrom (a : Assembly) (first : ℕ) (memory' input output output' : 
   pub ends : Ends (run first a.memory input output budget) ran memory' output'
 
 -- refused, with memory as the assembler leaves it and the output untouched; or run
-abbrev pub RanBy : (a : Assembly) → Assembled → (memory' input output output' : List ℕ) (budget : ℕ) → Executed → Type 0
-RanBy a (A.Refused r) memory' input output output' budget executed = (executed ≡ E.Unassembled r) × (memory' ≡ a.memory) × (output' ≡ output)
-RanBy a (A.Accepted first) memory' input output output' budget executed = RanFrom a first memory' input output output' budget executed
+abbrev pub RanBy : (a : Assembly) → Result ℕ Refusal → (memory' input output output' : List ℕ) (budget : ℕ) → Executed → Type 0
+RanBy a (Err r) memory' input output output' budget executed = (executed ≡ E.Unassembled r) × (memory' ≡ a.memory) × (output' ≡ output)
+RanBy a (Ok first) memory' input output output' budget executed = RanFrom a first memory' input output output' budget executed
 
 pub record RunsText (text memory memory' input output output' : List ℕ) (budget : ℕ) (executed : Executed) : Type 0 where
   pub by : RanBy (image text (length memory)) (image text (length memory)).answer memory' input output output' budget executed
@@ -48,7 +47,7 @@ ExecutedBy source accepted memory memory' input output output' budget executed =
 -- demand 3, of what came out: where the text is accepted and a source run with that image's placement ends with no undefined act, and
 -- uses none of the memory's last eight words, the machine's run follows it
 pub record Delivers (source memory memory' input output output' : List ℕ) (budget : ℕ) (ran : Ran) : Type 0 where
-  pub follows : (first : ℕ) → (image (text_of source) (length memory)).answer ≡ A.Accepted first
+  pub follows : (first : ℕ) → (image (text_of source) (length memory)).answer ≡ Ok first
       → (s : State) → SourceRunEnds source (placement_of source (image (text_of source) (length memory)).table first) (length memory) input s
       → s.used + 8 ≤ length memory
       → Follows (strings_in source) (placement_of source (image (text_of source) (length memory)).table first) s (length output) budget

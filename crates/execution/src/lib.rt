@@ -4,7 +4,7 @@
 ghost use Rattle.std.specs.Prelude.{◌≤◌, length, take};
 ghost use Rattle.execution.specs.Executes.{Executes, RunsText};
 
-use assembler::{Assembled, load};
+use assembler::load;
 use compiler::{Compiled, compile};
 use machine::{Ran, run};
 use text::Refusal;
@@ -29,8 +29,8 @@ fn run_text(
         output.new budget result }
 {
     match load(text, memory) {
-        Assembled::Refused(r) => Executed::Unassembled(r),
-        Assembled::Accepted(first) => Executed::Ran(run(memory, first, input, output, budget)),
+        Err(r) => Executed::Unassembled(r),
+        Ok(first) => Executed::Ran(run(memory, first, input, output, budget)),
     }
 }
 

@@ -11,7 +11,6 @@ mod listing;
 
 ghost use Rattle.std.specs.Prelude.{◌≡◌, length};
 
-use assembler::Assembled;
 use messages::{Budget, EprintBytes, Loaded, say};
 use std::io::IsTerminal;
 use std::rt::{Env, Files};
@@ -91,16 +90,16 @@ where
 {
     let mut memory = words();
     match assembler::load(source, &mut memory) {
-        Assembled::Refused(r) => messages::say_refusal(rt, b"minicode", source, r),
-        Assembled::Accepted(first) => run(rt, first, &mut memory, budget, asks),
+        Err(r) => messages::say_refusal(rt, b"minicode", source, r),
+        Ok(first) => run(rt, first, &mut memory, budget, asks),
     }
 }
 
 fn assemble_and_list(rt: &(impl EprintBytes + Print), source: &[u8]) {
     let mut memory = words();
     match assembler::load(source, &mut memory) {
-        Assembled::Refused(r) => messages::say_refusal(rt, b"minicode", source, r),
-        Assembled::Accepted(_) => listing::list(rt, source, &memory),
+        Err(r) => messages::say_refusal(rt, b"minicode", source, r),
+        Ok(_) => listing::list(rt, source, &memory),
     }
 }
 

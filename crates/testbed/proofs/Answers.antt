@@ -3,7 +3,8 @@ use Rattle.laws.proofs.Basics.{ℕ, ◌≡◌, refl, sym, ap, subst, ◌∙◌, 
 use Rattle.assembler.specs.Assemble as A
 use Rattle.assembler.specs.Assemble.{Assembles, assembled}
 use Rattle.assembler.specs.declared.Label.{Label}
-use Rattle.assembler.specs.declared.Assembled.{Assembled}
+use Rattle.std.specs.Prelude.{Result}
+use Rattle.text.specs.declared.Refusal.{Refusal}
 use Rattle.machine.specs.Run.{Outcome}
 use Rattle.machine.specs.Answers.{Ends}
 use Rattle.machine.specs.declared.Ran.{Ran}
@@ -41,7 +42,7 @@ run-exported e q = record {
 }
 
 -- an assembly's answer, told
-pub assemble-exported : {text memory : List ℕ} {table : List Label} {answer : Assembled} {memory' : List ℕ} {table' : List Label} {numbers : List ℕ}
+pub assemble-exported : {text memory : List ℕ} {table : List Label} {answer : Result ℕ Refusal} {memory' : List ℕ} {table' : List Label} {numbers : List ℕ}
     → Assembles text memory table answer memory' table'
     → numbers ≡ A.numbers answer → AssembleExported (assembled text (length memory) (length table)) memory' table' numbers
 assemble-exported e q = record { fills = e.fills; tables = e.tables; answers = q ∙ e.tells }

@@ -8,10 +8,11 @@ ghost use Rattle.machine.specs.State.{at};
 ghost use Rattle.testbed.specs.Exported.{registers_of, flag_of, ran_numbers, AssembleExported, RunExported, SymbolsExported, TreeExported};
 ghost use Rattle.testbed.specs.Exported.{TreeAnswered, CompileExported};
 
-use assembler::{Assembled, Label};
+use assembler::Label;
 use compiler::Compiled;
 use machine::{Ran, Registers};
 use symbols::SymbolsRead;
+use text::Refusal;
 use tree::TreeRead;
 
 #[unsafe(no_mangle)]
@@ -28,14 +29,14 @@ pub extern "C" fn morkvasil_assemble(
     tell(assembly, answer);
 }
 
-fn tell(assembly: Assembled, answer: &mut [u64; 3])
+fn tell(assembly: Result<u16, Refusal>, answer: &mut [u64; 3])
     ensures { answer.new ≡ numbers assembly }
 {
     match assembly {
-        Assembled::Accepted(first) => {
+        Ok(first) => {
             *answer = [0, first as u64, 0];
         }
-        Assembled::Refused(r) => {
+        Err(r) => {
             *answer = [r.number as u64, r.place as u64, r.line as u64];
         }
     }
