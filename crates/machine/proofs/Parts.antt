@@ -1,7 +1,7 @@
 -- A run in parts (document 02, Req 08): with budget n, then carried on with m from what is left, it is the run with n + m; so in any number of
 -- parts. What `carry_on` cites.
-use Rattle.laws.proofs.Basics.{ℕ, zero, suc, ◌+◌, ◌-◌, ◌<◌, ◌≤◌, ◌≡◌, refl, sym, ap, ◌∙◌, List, [], ◌∷◌, ◌&&◌, cond, length, eqb, leb, arith}
-use Rattle.laws.proofs.Basics.{eq-eqb, ne_eqb, leb-true, le-leb, lt-leb}
+use Rattle.laws.proofs.Basics.{ℕ, zero, suc, ◌+◌, ◌-◌, ◌≤◌, ◌≡◌, refl, sym, ap, ◌∙◌, List, [], ◌∷◌, ◌&&◌, cond, length, eqb, leb, arith}
+use Rattle.laws.proofs.Basics.{eq-eqb, ne_eqb, leb-true, le-leb}
 use Rattle.laws.proofs.Cases.{by_cases}
 use mir.Syntax.{w64}
 use mir.Val.{Fits}
@@ -80,13 +80,10 @@ unfolding resume
 resume-count input n s = by_cases (leb 512 (length s.mem) && leb (length s.mem) 32768) (λ e. rw e (steps-count input n s))
     (λ e. rw e (omega arith))
 
--- ---- `allowed`
+-- ---- the further budget
 
 pub allowed_all : (count m : ℕ) → m ≤ largest - count → m ≡ allowed count m
 allowed_all count m h = simp (le-leb m (largest - count) h)
-
-pub allowed-left : (count m : ℕ) → largest - count < m → largest - count ≡ allowed count m
-allowed-left count m h = simp (lt-leb m (largest - count) h)
 
 allowed-fits : (count m : ℕ) → count ≤ largest → count + allowed count m ≤ largest
 allowed-fits count m l = by_cases (leb m (largest - count)) (λ e. let h = leb-true m (largest - count) e in rw e (omega arith))
@@ -120,18 +117,18 @@ module _ (input : List ℕ) (first : Ran) (memory output : List ℕ) (m : ℕ) w
           in rw is h
 
   -- a first part that stopped otherwise is the whole run
-  pub carry-whole : (first.stop ≡ 31 → ⊥) → CarriesOn input first memory output m first memory output
-  carry-whole z = carries (rw (carried_other (outcome_of first memory output) onwards z)
+  pub carry_whole : (first.stop ≡ 31 → ⊥) → CarriesOn input first memory output m first memory output
+  carry_whole z = carries (rw (carried_other (outcome_of first memory output) onwards z)
       (record { stops = refl; counts = refl; leaves = refl; stores = refl; writes = refl }))
 
   module _ {b : ℕ} (hb : b ≡ allowed first.count m) {rest : Ran} {memory' output' : List ℕ}
       (e : Ends (resume input b (at first.registers memory output)) rest memory' output') where
-    pub carry-fits : Fits w64 first.count → Fits w64 (first.count + rest.count)
-    carry-fits f = omega (arith, e.counts, resume-count input b (at first.registers memory output), allowed-fits first.count m (omega arith))
+    pub carry_fits : Fits w64 first.count → Fits w64 (first.count + rest.count)
+    carry_fits f = omega (arith, e.counts, resume-count input b (at first.registers memory output), allowed-fits first.count m (omega arith))
 
-    pub carry-rest : first.stop ≡ 31 → CarriesOn input first memory output m
+    pub carry_rest : first.stop ≡ 31 → CarriesOn input first memory output m
         (record { stop = rest.stop; count = first.count + rest.count; registers = rest.registers }) memory' output'
-    carry-rest z =
+    carry_rest z =
         carries (rw (carried-31 (outcome_of first memory output) onwards z, ← hb) (record {
           stops = e.stops;
           counts = ap (λ (k : ℕ). first.count + k) e.counts;

@@ -1,56 +1,52 @@
--- What the code's enums say of the definitions' outcomes.
-use Rattle.std.specs.Prelude.{ℕ, ◌+◌, ◌≤◌, ◌≡◌, List}
-use Rattle.words.specs.declared.Divided.{Divided}
-use Rattle.words.specs.declared.Divided.TheVariants.{Is, ByZero}
-use Rattle.machine.specs.Outcome.{Out, ok, stop}
+-- What the code's answers say of the definitions' outcomes.
+use Rattle.std.specs.Prelude.{ℕ, ◌+◌, ◌≤◌, ◌≡◌, List, Result, Ok, Err}
+use Rattle.machine.specs.Stops.{number_of}
+use Rattle.machine.specs.Outcome.{Out, ok, stop, ◌>>=◌}
 use Rattle.machine.specs.State.{State, at, with_c}
 use Rattle.machine.specs.Fetch.{Fetch}
 use Rattle.machine.specs.Step as S
 use Rattle.machine.specs.Run.{Outcome, resume, carried_on, largest, allowed}
 use Rattle.machine.specs.declared.Registers.{Registers}
 use Rattle.machine.specs.declared.Ran.{Ran}
-use Rattle.machine.specs.declared.StepResult.{StepResult}
-use Rattle.machine.specs.declared.StepResult.TheVariants as T
-use Rattle.machine.specs.declared.Word.{Word}
-use Rattle.machine.specs.declared.Word.TheVariants as W
+use Rattle.machine.specs.declared.stops.Stop.{Stop}
+use Rattle.machine.specs.declared.Progress.{Progress}
+use Rattle.machine.specs.declared.Progress.TheVariants as T
 use Rattle.machine.specs.declared.Fetched.{Fetched}
-use Rattle.machine.specs.declared.Fetched.TheVariants as F
 
-unfoldable pub as_word : Out ℕ → Word
-as_word (ok v) = W.Is v
-as_word (stop k) = W.Stopped k
-
--- a quotient or a remainder; 33: zero divisor
-unfoldable pub as_quotient : Divided → Word
-as_quotient (Is v) = W.Is v
-as_quotient ByZero = W.Stopped 33
+-- a part's answer: its value, or the number of the stop that it names
+abbrev pub out_of : {A : Type 0} → Result A Stop → Out A
+out_of (Ok a) = ok a
+out_of (Err s) = stop (number_of s)
 
 -- a fetch with registers: C goes past the instruction
-unfoldable pub as_fetched : Registers → Out Fetch → Fetched
-as_fetched r (ok f) = F.One f.function f.operand (with_c f.past r)
-as_fetched r (stop k) = F.Stopped k
+abbrev pub fetched_by : Registers → (function operand past : ℕ) → Fetched
+fetched_by r f x past = record { function = f; operand = x; registers = with_c past r }
 
--- an act on the registers alone
-unfoldable pub as_acted : Out Registers → StepResult
-as_acted (ok r) = T.Done r
-as_acted (stop k) = T.Stopped k
+abbrev pub as_fetched : Registers → Out Fetch → Out Fetched
+as_fetched r o = o >>= λ (f : Fetch). ok (fetched_by r f.function f.operand f.past)
 
-unfoldable pub as_result : S.StepResult → StepResult
-as_result (S.done t) = T.Done t.regs
-as_result (S.finished t) = T.Finished t.regs
-as_result (S.stopped k) = T.Stopped k
+-- a step's answer, with the memory and output at exit
+abbrev pub step_of : Result Progress Stop → (memory output : List ℕ) → S.StepResult
+step_of (Ok (T.Done r)) memory output = S.done (at r memory output)
+step_of (Ok (T.Finished r)) memory output = S.finished (at r memory output)
+step_of (Err s) memory output = S.stopped (number_of s)
 
--- document 01's numbers of an answer: 30 finished, or the stop, and 0 where the run goes on; and the registers, which a stop leaves as
--- they were
-abbrev pub number_of : StepResult → ℕ
-number_of (T.Done r) = 0
-number_of (T.Finished r) = 30
-number_of (T.Stopped k) = k
+-- document 01's numbers of a step: 30 finished, or the stop, and 0 where the run goes on
+abbrev pub number_in : S.StepResult → ℕ
+number_in (S.done t) = 0
+number_in (S.finished t) = 30
+number_in (S.stopped k) = k
 
-abbrev pub registers_of : Registers → StepResult → Registers
-registers_of r (T.Done t) = t
-registers_of r (T.Finished t) = t
-registers_of r (T.Stopped k) = r
+abbrev pub number_of_step : Result Progress Stop → ℕ
+number_of_step (Ok (T.Done r)) = 0
+number_of_step (Ok (T.Finished r)) = 30
+number_of_step (Err s) = number_of s
+
+-- an answer's registers, which a stop leaves as they were
+abbrev pub registers_of : Registers → Result Progress Stop → Registers
+registers_of r (Ok (T.Done t)) = t
+registers_of r (Ok (T.Finished t)) = t
+registers_of r (Err s) = r
 
 -- where a step leaves the state: a stop leaves it as it was
 unfoldable pub left : State → S.StepResult → State
@@ -59,9 +55,9 @@ left s (S.finished t) = t
 left s (S.stopped k) = s
 
 -- an answer, and the lent memory and output at exit, are what a step from a state gives
-pub record Steps (s : State) (result : S.StepResult) (answer : StepResult) (memory output : List ℕ) : Type 0 where
-  pub answers : answer ≡ as_result result
-  pub stops : number_of answer ≡ number_of (as_result result)
+pub record Steps (s : State) (result : S.StepResult) (answer : Result Progress Stop) (memory output : List ℕ) : Type 0 where
+  pub answers : step_of answer memory output ≡ result
+  pub stops : number_of_step answer ≡ number_in result
   pub leaves : registers_of s.regs answer ≡ (left s result).regs
   pub stores : memory ≡ (left s result).mem
   pub writes : output ≡ (left s result).out

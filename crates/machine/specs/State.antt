@@ -15,6 +15,11 @@ at r m o = record { regs = r; mem = m; out = o }
 abbrev pub start_registers : ℕ → Registers
 start_registers first = record { a = 0; b = 0; c = 0; p = first; g = 16; taken = 0; written = 0; stored = false; from = 0; words = 0 }
 
+-- the last instruction stored nothing
+abbrev pub storing_nothing : Registers → Registers
+storing_nothing r =
+    record { a = r.a; b = r.b; c = r.c; p = r.p; g = r.g; taken = r.taken; written = r.written; stored = false; from = 0; words = 0 }
+
 -- Registers put anew. What an instruction puts, its C past it included, says that it stored nothing: none, 0 and 0 (document 02, Req 07);
 -- S and K then say what they stored.
 abbrev pub with_a : ℕ → Registers → Registers

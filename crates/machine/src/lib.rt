@@ -7,20 +7,19 @@
 
 mod stops;
 
-ghost use Rattle.std.specs.Prelude.{◌≡◌, cond, eqb};
+ghost use Rattle.std.specs.Prelude.{◌≡◌};
 ghost use Rattle.words.specs.Words.{add, neg, complement};
-ghost use Rattle.machine.specs.Outcome.{Out, ok, read};
-ghost use Rattle.machine.specs.State.{at, start_registers, with_a, with_c, loaded, framed, having_stored};
+ghost use Rattle.machine.specs.Outcome.{read};
+ghost use Rattle.machine.specs.State.{at, start_registers, storing_nothing, with_a, with_c, loaded, framed, having_stored};
 ghost use Rattle.machine.specs.Fetch.{fetch};
 ghost use Rattle.machine.specs.Forms.{fetched_at, fetched_from, decoded};
 ghost use Rattle.machine.specs.Acts.{act_of, indirected, returned, combined, sought, switched, received, sent};
 ghost use Rattle.machine.specs.Step.{result_of, stored, called, jumped, perform, function_of, execute, step};
 ghost use Rattle.machine.specs.Run.{steps, resume, allowed, run};
-ghost use Rattle.machine.specs.Answers.{as_word, as_quotient, as_fetched, as_acted, Steps, Ends, CarriesOn};
+ghost use Rattle.machine.specs.Answers.{out_of, fetched_by, as_fetched, Steps, Ends, CarriesOn};
 ghost use Rattle.machine.specs.Numbers.{value_of};
 
 pub use stops::{Stop, UnknownStop};
-use words::Divided;
 
 // The registers, the places reached in the input and the output, and what the last completed instruction stored: whether anything,
 // the first address, and the number of words.
@@ -38,26 +37,19 @@ pub struct Registers {
     pub words: u16,
 }
 
-// A word, or the number of the stop.
-#[derive(Drop)]
-pub enum Word {
-    Is(u16),
-    Stopped(u16),
+// An instruction's function, its operand and the registers with C past it.
+#[derive(Clone, Copy)]
+struct Fetched {
+    function: u16,
+    operand: u16,
+    registers: Registers,
 }
 
-// An instruction's function, its operand and the registers with C past it, or the number of the stop.
-#[derive(Drop)]
-pub enum Fetched {
-    One(u16, u16, Registers),
-    Stopped(u16),
-}
-
-// What one instruction leaves in the registers, or the number of the stop that left it undone.
-#[derive(Drop)]
-pub enum StepResult {
+// What an instruction leaves in the registers: the run goes on, or is finished.
+#[derive(Clone, Copy)]
+pub enum Progress {
     Done(Registers),
     Finished(Registers),
-    Stopped(u16),
 }
 
 // How a run ended: document 01's stop, the number of instructions done, and the registers.
@@ -68,77 +60,51 @@ pub struct Ran {
     pub registers: Registers,
 }
 
-fn word_at(memory: &[u16], i: u16) -> Word
-    ensures { result ≡ as_word (read memory.now i) }
+#[tactic(auto, unfolding(crate::specs::Outcome::read))]
+fn word_at(memory: &[u16], i: u16) -> Result<u16, Stop>
+    ensures { out_of result ≡ read memory.now i }
 {
-    let at = i as usize;
-    if at < memory.len() {
-        Word::Is(memory[at])
-    } else {
-        Word::Stopped(32)
-    }
-}
-
-fn if_set(bit: u16, x: u16, y: u16) -> u16
-    ensures { result ≡ cond (eqb bit 1) x y }
-{
-    if bit == 1 { x } else { y }
-}
-
-fn quotient_word(d: Divided) -> Word
-    ensures { result ≡ as_quotient d }
-{
-    match d {
-        Divided::Is(v) => Word::Is(v),
-        Divided::ByZero => Word::Stopped(33),
-    }
+    memory.get(i as usize).copied().ok_or(Stop::Address)
 }
 
 // What the acts 5 to 19 make of B and A.
-fn dyadic_act(n: u16, b: u16, a: u16) -> Word
-    ensures { result ≡ as_word (value_of (act_of n) b a) }
+#[tactic(auto, using(crate::proofs::Numbers::dyadic_act_is, crate::proofs::Numbers::dyadic_act_divides), unfolding(crate::specs::Numbers::value_of))]
+fn dyadic_act(n: u16, b: u16, a: u16) -> Result<u16, Stop>
+    ensures { out_of result ≡ value_of (act_of n) b a }
 {
     match n {
-        5 => Word::Is(words::product(b, a)),
-        6 => quotient_word(words::quotient(b, a)),
-        7 => quotient_word(words::remainder(b, a)),
-        8 => Word::Is(words::sum(b, a)),
-        9 => Word::Is(words::difference(b, a)),
-        10 => Word::Is(words::equal(b, a)),
-        11 => Word::Is(words::unequal(b, a)),
-        12 => Word::Is(words::less(b, a)),
-        13 => Word::Is(words::at_least(b, a)),
-        14 => Word::Is(words::greater(b, a)),
-        15 => Word::Is(words::at_most(b, a)),
-        16 => Word::Is(words::shift_left(b, a)),
-        17 => Word::Is(words::shift_right(b, a)),
-        18 => Word::Is(words::conjunction(b, a)),
-        19 => Word::Is(words::disjunction(b, a)),
-        _ => Word::Stopped(34),
+        5 => Ok(words::product(b, a)),
+        6 => words::quotient(b, a).ok_or(Stop::ZeroDivisor),
+        7 => words::remainder(b, a).ok_or(Stop::ZeroDivisor),
+        8 => Ok(words::sum(b, a)),
+        9 => Ok(words::difference(b, a)),
+        10 => Ok(words::equal(b, a)),
+        11 => Ok(words::unequal(b, a)),
+        12 => Ok(words::less(b, a)),
+        13 => Ok(words::at_least(b, a)),
+        14 => Ok(words::greater(b, a)),
+        15 => Ok(words::at_most(b, a)),
+        16 => Ok(words::shift_left(b, a)),
+        17 => Ok(words::shift_right(b, a)),
+        18 => Ok(words::conjunction(b, a)),
+        19 => Ok(words::disjunction(b, a)),
+        _ => Err(Stop::UnlistedAct),
     }
 }
 
 // The address beside the first number equal to a among n pairs from `from` on, or the default.
-fn switch_address(memory: &[u16], a: u16, default: u16, n: u16, from: u16) -> Word
-    ensures { result ≡ as_word (sought memory.now a default n from) }
+#[tactic(auto, using(crate::proofs::Laws::sought_none, crate::proofs::Laws::sought_hits))]
+fn switch_address(memory: &[u16], a: u16, default: u16, n: u16, from: u16) -> Result<u16, Stop>
+    ensures { out_of result ≡ sought memory.now a default n from }
 {
     let mut i = from;
-    let mut left = n;
-    while left > 0 {
-        match word_at(memory, i) {
-            Word::Stopped(k) => {
-                return Word::Stopped(k);
-            }
-            Word::Is(v) => {
-                if v == a {
-                    return word_at(memory, words::sum(i, 1));
-                }
-            }
+    for _ in 0..n {
+        if word_at(memory, i)? == a {
+            return word_at(memory, words::sum(i, 1));
         }
         i = words::sum(i, 2);
-        left -= 1;
     }
-    Word::Is(default)
+    Ok(default)
 }
 
 impl Registers {
@@ -160,97 +126,14 @@ impl Registers {
         }
     }
 
-    // The function f with the word at i as its operand.
-    fn reading(self, memory: &[u16], f: u16, i: u16, past: u16) -> Fetched
-        ensures { result ≡ as_fetched self (fetched_at memory.now f i past) }
-    {
-        match word_at(memory, i) {
-            Word::Stopped(k) => {
-                return Fetched::Stopped(k);
-            }
-            Word::Is(x) => {
-                return Fetched::One(f, x, self.with_c(past));
-            }
-        }
-    }
-
-    // The function of w with its operand, from the number n.
-    fn operand(self, memory: &[u16], w: u16, n: u16, past: u16) -> Fetched
-        ensures { result ≡ as_fetched self (fetched_from self memory.now w n past) }
-    {
-        let p = if_set(w / 2048 % 2, self.p, 0);
-        let g = if_set(w / 1024 % 2, self.g, 0);
-        let y = words::sum(words::sum(n, p), g);
-        if w / 4096 % 2 == 1 {
-            return self.reading(memory, w / 8192, y, past);
-        }
-        Fetched::One(w / 8192, y, self.with_c(past))
-    }
-
-    // The instruction at C, whose word is w.
-    fn decode(self, memory: &[u16], w: u16) -> Fetched
-        ensures { result ≡ as_fetched self (decoded self memory.now w) }
-    {
-        let c = self.c;
-        if w / 512 % 2 == 1 {
-            match word_at(memory, words::sum(c, 1)) {
-                Word::Stopped(k) => {
-                    return Fetched::Stopped(k);
-                }
-                Word::Is(n) => {
-                    return self.operand(memory, w, n, words::sum(c, 2));
-                }
-            }
-        }
-        self.operand(memory, w, w % 512, words::sum(c, 1))
-    }
-
-    // The instruction at C. L, LIP, SP and X with a short address, the commonest, are told by one test of the word.
-    fn fetch(self, memory: &[u16]) -> Fetched
-        ensures { result ≡ as_fetched self (fetch self memory.now) }
-    {
-        match word_at(memory, self.c) {
-            Word::Stopped(k) => {
-                return Fetched::Stopped(k);
-            }
-            Word::Is(w) => {
-                let past = words::sum(self.c, 1);
-                match w / 512 {
-                    0 => {
-                        return Fetched::One(0, w % 512, self.with_c(past));
-                    }
-                    12 => {
-                        return self.reading(memory, 0, words::sum(w % 512, self.p), past);
-                    }
-                    20 => {
-                        return Fetched::One(1, words::sum(w % 512, self.p), self.with_c(past));
-                    }
-                    112 => {
-                        return Fetched::One(7, w % 512, self.with_c(past));
-                    }
-                    _ => {
-                        return self.decode(memory, w);
-                    }
-                }
-            }
-        }
-    }
-
-    // L.
-    fn load(self, x: u16) -> Self
-        ensures { result ≡ loaded x self }
+    fn storing_nothing(self) -> Self
+        ensures { result ≡ storing_nothing self }
     {
         Registers {
-            a: x,
-            b: self.a,
-            c: self.c,
-            p: self.p,
-            g: self.g,
-            taken: self.taken,
-            written: self.written,
             stored: false,
             from: 0,
             words: 0,
+            ..self
         }
     }
 
@@ -259,15 +142,7 @@ impl Registers {
     {
         Registers {
             a: v,
-            b: self.b,
-            c: self.c,
-            p: self.p,
-            g: self.g,
-            taken: self.taken,
-            written: self.written,
-            stored: false,
-            from: 0,
-            words: 0,
+            ..self.storing_nothing()
         }
     }
 
@@ -275,16 +150,8 @@ impl Registers {
         ensures { result ≡ with_c v self }
     {
         Registers {
-            a: self.a,
-            b: self.b,
             c: v,
-            p: self.p,
-            g: self.g,
-            taken: self.taken,
-            written: self.written,
-            stored: false,
-            from: 0,
-            words: 0,
+            ..self.storing_nothing()
         }
     }
 
@@ -292,16 +159,9 @@ impl Registers {
         ensures { result ≡ framed p c self }
     {
         Registers {
-            a: self.a,
-            b: self.b,
-            c: c,
-            p: p,
-            g: self.g,
-            taken: self.taken,
-            written: self.written,
-            stored: false,
-            from: 0,
-            words: 0,
+            c,
+            p,
+            ..self.storing_nothing()
         }
     }
 
@@ -310,16 +170,80 @@ impl Registers {
         ensures { result ≡ having_stored from words self }
     {
         Registers {
-            a: self.a,
-            b: self.b,
-            c: self.c,
-            p: self.p,
-            g: self.g,
-            taken: self.taken,
-            written: self.written,
             stored: true,
-            from: from,
-            words: words,
+            from,
+            words,
+            ..self
+        }
+    }
+
+    fn fetched(self, function: u16, operand: u16, past: u16) -> Fetched
+        ensures { result ≡ fetched_by self function operand past }
+    {
+        Fetched {
+            function,
+            operand,
+            registers: self.with_c(past),
+        }
+    }
+
+    // The function f with the word at i as its operand.
+    #[tactic(auto, unfolding(crate::specs::Forms::fetched_at))]
+    fn reading(self, memory: &[u16], f: u16, i: u16, past: u16) -> Result<Fetched, Stop>
+        ensures { out_of result ≡ as_fetched self (fetched_at memory.now f i past) }
+    {
+        Ok(self.fetched(f, word_at(memory, i)?, past))
+    }
+
+    // The function of w with its operand, from the number n.
+    #[tactic(auto, unfolding(crate::specs::Forms::fetched_at, crate::specs::Forms::fetched_from))]
+    fn operand(self, memory: &[u16], w: u16, n: u16, past: u16) -> Result<Fetched, Stop>
+        ensures { out_of result ≡ as_fetched self (fetched_from self memory.now w n past) }
+    {
+        let p = if w / 2048 % 2 == 1 { self.p } else { 0 };
+        let g = if w / 1024 % 2 == 1 { self.g } else { 0 };
+        let y = words::sum(words::sum(n, p), g);
+        if w / 4096 % 2 == 1 {
+            return self.reading(memory, w / 8192, y, past);
+        }
+        Ok(self.fetched(w / 8192, y, past))
+    }
+
+    // The instruction at C, whose word is w.
+    #[tactic(auto, unfolding(crate::specs::Forms::decoded))]
+    fn decode(self, memory: &[u16], w: u16) -> Result<Fetched, Stop>
+        ensures { out_of result ≡ as_fetched self (decoded self memory.now w) }
+    {
+        if w / 512 % 2 == 1 {
+            let n = word_at(memory, words::sum(self.c, 1))?;
+            return self.operand(memory, w, n, words::sum(self.c, 2));
+        }
+        self.operand(memory, w, w % 512, words::sum(self.c, 1))
+    }
+
+    // The instruction at C. L, LIP, SP and X with a short address, the commonest, are told by one test of the word.
+    #[tactic(auto, using(crate::proofs::Fetching::fetch_l, crate::proofs::Fetching::fetch_x, crate::proofs::Fetching::fetch_sp, crate::proofs::Fetching::fetch_lip, crate::proofs::Fetching::fetch_any))]
+    fn fetch(self, memory: &[u16]) -> Result<Fetched, Stop>
+        ensures { out_of result ≡ as_fetched self (fetch self memory.now) }
+    {
+        let w = word_at(memory, self.c)?;
+        let past = words::sum(self.c, 1);
+        match w / 512 {
+            0 => Ok(self.fetched(0, w % 512, past)),
+            12 => self.reading(memory, 0, words::sum(w % 512, self.p), past),
+            20 => Ok(self.fetched(1, words::sum(w % 512, self.p), past)),
+            112 => Ok(self.fetched(7, w % 512, past)),
+            _ => self.decode(memory, w),
+        }
+    }
+
+    // L.
+    fn load(self, x: u16) -> Self
+        ensures { result ≡ loaded x self }
+    {
+        Registers {
+            b: self.a,
+            ..self.with_a(x)
         }
     }
 
@@ -331,6 +255,7 @@ impl Registers {
     }
 
     // J, T and F, where the test holds.
+    #[tactic(auto, unfolding(crate::specs::Step::jumped))]
     fn jump(self, go: bool, x: u16) -> Self
         ensures { result ≡ jumped go x self }
     {
@@ -338,13 +263,11 @@ impl Registers {
     }
 
     // X1.
-    fn indirect(self, memory: &[u16]) -> StepResult
-        ensures { result ≡ as_acted (indirected self memory.now) }
+    #[tactic(auto, unfolding(crate::specs::Acts::indirected))]
+    fn indirect(self, memory: &[u16]) -> Result<Self, Stop>
+        ensures { out_of result ≡ indirected self memory.now }
     {
-        match word_at(memory, self.a) {
-            Word::Stopped(k) => StepResult::Stopped(k),
-            Word::Is(v) => StepResult::Done(self.with_a(v)),
-        }
+        Ok(self.with_a(word_at(memory, self.a)?))
     }
 
     // X2.
@@ -362,157 +285,123 @@ impl Registers {
     }
 
     // X4.
-    fn back(self, memory: &[u16]) -> StepResult
-        ensures { result ≡ as_acted (returned self memory.now) }
+    #[tactic(auto, unfolding(crate::specs::Acts::returned))]
+    fn back(self, memory: &[u16]) -> Result<Self, Stop>
+        ensures { out_of result ≡ returned self memory.now }
     {
-        match word_at(memory, words::sum(self.p, 1)) {
-            Word::Stopped(k) => StepResult::Stopped(k),
-            Word::Is(c) => match word_at(memory, self.p) {
-                Word::Stopped(k) => StepResult::Stopped(k),
-                Word::Is(p) => StepResult::Done(self.framed(p, c)),
-            },
-        }
+        let c = word_at(memory, words::sum(self.p, 1))?;
+        let p = word_at(memory, self.p)?;
+        Ok(self.framed(p, c))
     }
 
     // X5 to X19; 34 for a number that is not listed.
-    fn combine(self, n: u16) -> StepResult
-        ensures { result ≡ as_acted (combined (value_of (act_of n)) self) }
+    #[tactic(auto, unfolding(crate::specs::Acts::combined))]
+    fn combine(self, n: u16) -> Result<Self, Stop>
+        ensures { out_of result ≡ combined (value_of (act_of n)) self }
     {
-        match dyadic_act(n, self.b, self.a) {
-            Word::Stopped(k) => StepResult::Stopped(k),
-            Word::Is(v) => StepResult::Done(self.with_a(v)),
-        }
+        Ok(self.with_a(dyadic_act(n, self.b, self.a)?))
     }
 
     // X23.
-    fn switch(self, memory: &[u16]) -> StepResult
-        ensures { result ≡ as_acted (switched self memory.now) }
+    #[tactic(auto, unfolding(crate::specs::Acts::switched))]
+    fn switch(self, memory: &[u16]) -> Result<Self, Stop>
+        ensures { out_of result ≡ switched self memory.now }
     {
-        let c = self.c;
-        match word_at(memory, c) {
-            Word::Stopped(k) => StepResult::Stopped(k),
-            Word::Is(n) => match word_at(memory, words::sum(c, 1)) {
-                Word::Stopped(k) => StepResult::Stopped(k),
-                Word::Is(default) => match switch_address(
-                    memory,
-                    self.a,
-                    default,
-                    n,
-                    words::sum(c, 2),
-                ) {
-                    Word::Stopped(k) => StepResult::Stopped(k),
-                    Word::Is(to) => StepResult::Done(self.with_c(to)),
-                },
-            },
-        }
+        let n = word_at(memory, self.c)?;
+        let default = word_at(memory, words::sum(self.c, 1))?;
+        let to = switch_address(memory, self.a, default, n, words::sum(self.c, 2))?;
+        Ok(self.with_c(to))
     }
 
     // X27.
+    #[tactic(auto, unfolding(crate::specs::Acts::received))]
     fn rdch(self, input: &[u8]) -> Self
         ensures { result ≡ received self input.now }
     {
-        let taken = self.taken;
-        if taken < input.len() {
-            Registers {
-                a: input[taken] as u16,
-                b: self.b,
-                c: self.c,
-                p: self.p,
-                g: self.g,
-                taken: taken + 1,
-                written: self.written,
-                stored: false,
-                from: 0,
-                words: 0,
-            }
-        } else {
-            self.with_a(65535)
+        match input.get(self.taken) {
+            Some(&byte) => Registers {
+                taken: self.taken + 1,
+                ..self.with_a(byte as u16)
+            },
+            None => self.with_a(65535),
         }
     }
 
-    // X28.
-    fn wrch(self, memory: &mut [u16], output: &mut [u8]) -> StepResult
+    // X28. By a test of the length, as `store`.
+    #[tactic(auto, unfolding(crate::specs::Acts::sent, crate::specs::Answers::left))]
+    fn wrch(self, memory: &mut [u16], output: &mut [u8]) -> Result<Progress, Stop>
         ensures { Steps (at self memory.old output.old)
             (result_of (sent (at self memory.old output.old))) result memory.new output.new }
     {
-        let written = self.written;
-        if written < output.len() {
-            output[written] = (self.a % 256) as u8;
-            StepResult::Done(Registers {
-                a: self.a,
-                b: self.b,
-                c: self.c,
-                p: self.p,
-                g: self.g,
-                taken: self.taken,
-                written: written + 1,
-                stored: false,
-                from: 0,
-                words: 0,
-            })
-        } else {
-            StepResult::Stopped(35)
+        if self.written >= output.len() {
+            return Err(Stop::OutputFull);
         }
+        output[self.written] = (self.a % 256) as u8;
+        Ok(Progress::Done(Registers {
+            written: self.written + 1,
+            ..self.storing_nothing()
+        }))
     }
 
-    // S.
-    fn store(self, x: u16, memory: &mut [u16], output: &mut [u8]) -> StepResult
+    // S. By a test of the length: `get_mut` was tried, and the proof didn't close.
+    #[tactic(auto, unfolding(crate::specs::Step::stored, crate::specs::Outcome::write, crate::specs::Answers::left))]
+    fn store(self, x: u16, memory: &mut [u16], output: &mut [u8]) -> Result<Progress, Stop>
         ensures { Steps (at self memory.old output.old)
             (result_of (stored x (at self memory.old output.old))) result memory.new output.new }
     {
         let i = x as usize;
-        let a = self.a;
-        if i < memory.len() {
-            memory[i] = a;
-            StepResult::Done(self.having_stored(x, 1))
-        } else {
-            StepResult::Stopped(32)
+        if i >= memory.len() {
+            return Err(Stop::Address);
         }
+        memory[i] = self.a;
+        Ok(Progress::Done(self.having_stored(x, 1)))
     }
 
-    // K.
-    fn call(self, x: u16, memory: &mut [u16], output: &mut [u8]) -> StepResult
+    // K. Both words' places are checked before either is stored: a stop keeps the memory.
+    #[tactic(auto, unfolding(crate::specs::Step::called, crate::specs::Outcome::write, crate::specs::Answers::left))]
+    fn call(self, x: u16, memory: &mut [u16], output: &mut [u8]) -> Result<Progress, Stop>
         ensures { Steps (at self memory.old output.old)
             (result_of (called x (at self memory.old output.old))) result memory.new output.new }
     {
         let frame = words::sum(self.p, x);
-        let p = self.p;
-        let c = self.c;
         let i = frame as usize;
         let j = words::sum(frame, 1) as usize;
-        if i < memory.len() {
-            if j < memory.len() {
-                memory[i] = p;
-                memory[j] = c;
-                StepResult::Done(self.framed(frame, self.a).having_stored(frame, 2))
-            } else {
-                StepResult::Stopped(32)
-            }
-        } else {
-            StepResult::Stopped(32)
+        if i >= memory.len() || j >= memory.len() {
+            return Err(Stop::Address);
         }
+        memory[i] = self.p;
+        memory[j] = self.c;
+        Ok(Progress::Done(self.framed(frame, self.a).having_stored(frame, 2)))
     }
 
     // X.
-    fn perform(self, n: u16, memory: &mut [u16], input: &[u8], output: &mut [u8]) -> StepResult
+    #[tactic(auto, using(crate::proofs::Numbers::act_at), unfolding(crate::specs::Step::perform, crate::specs::Step::keep, crate::specs::Answers::left))]
+    fn perform(
+        self,
+        n: u16,
+        memory: &mut [u16],
+        input: &[u8],
+        output: &mut [u8],
+    ) -> Result<Progress, Stop>
         ensures { Steps (at self memory.old output.old)
             (perform input.now (act_of n) (at self memory.old output.old))
             result memory.new output.new }
     {
         match n {
-            1 => self.indirect(memory),
-            2 => StepResult::Done(self.negate()),
-            3 => StepResult::Done(self.invert()),
-            4 => self.back(memory),
-            22 => StepResult::Finished(self),
-            23 => self.switch(memory),
-            27 => StepResult::Done(self.rdch(input)),
+            1 => Ok(Progress::Done(self.indirect(memory)?)),
+            2 => Ok(Progress::Done(self.negate())),
+            3 => Ok(Progress::Done(self.invert())),
+            4 => Ok(Progress::Done(self.back(memory)?)),
+            22 => Ok(Progress::Finished(self)),
+            23 => Ok(Progress::Done(self.switch(memory)?)),
+            27 => Ok(Progress::Done(self.rdch(input))),
             28 => self.wrch(memory, output),
-            _ => self.combine(n),
+            _ => Ok(Progress::Done(self.combine(n)?)),
         }
     }
 
     // The function f with its operand x, C being past the instruction.
+    #[tactic(auto, using(crate::proofs::Numbers::function_at, crate::proofs::Numbers::function_x), unfolding(crate::specs::Step::execute, crate::specs::Step::jumped, crate::specs::Step::keep, crate::specs::Answers::left))]
     fn execute(
         self,
         f: u16,
@@ -520,36 +409,38 @@ impl Registers {
         memory: &mut [u16],
         input: &[u8],
         output: &mut [u8],
-    ) -> StepResult
+    ) -> Result<Progress, Stop>
         ensures { Steps (at self memory.old output.old)
             (execute input.now (function_of f) x (at self memory.old output.old))
             result memory.new output.new }
     {
         match f {
-            0 => StepResult::Done(self.load(x)),
+            0 => Ok(Progress::Done(self.load(x))),
             1 => self.store(x, memory, output),
-            2 => StepResult::Done(self.add(x)),
-            3 => StepResult::Done(self.jump(true, x)),
-            4 => StepResult::Done(self.jump(self.a != 0, x)),
-            5 => StepResult::Done(self.jump(self.a == 0, x)),
+            2 => Ok(Progress::Done(self.add(x))),
+            3 => Ok(Progress::Done(self.jump(true, x))),
+            4 => Ok(Progress::Done(self.jump(self.a != 0, x))),
+            5 => Ok(Progress::Done(self.jump(self.a == 0, x))),
             6 => self.call(x, memory, output),
             _ => self.perform(x, memory, input, output),
         }
     }
 
     // One instruction.
-    pub fn step(self, memory: &mut [u16], input: &[u8], output: &mut [u8]) -> StepResult
+    #[tactic(auto, using(crate::proofs::Runs::step_stop, crate::proofs::Runs::step_one))]
+    pub fn step(self, memory: &mut [u16], input: &[u8], output: &mut [u8]) -> Result<Progress, Stop>
         ensures { Steps (at self memory.old output.old)
             (step input.now (at self memory.old output.old)) result memory.new output.new }
     {
-        match self.fetch(memory) {
-            Fetched::Stopped(k) => StepResult::Stopped(k),
-            Fetched::One(f, x, r) => r.execute(f, x, memory, input, output),
-        }
+        let f = self.fetch(memory)?;
+        f.registers
+            .execute(f.function, f.operand, memory, input, output)
     }
 }
 
-// Instructions until a stop; what is left of the budget falls by one each.
+// Instructions until a stop; what is left of the budget falls by one each. No `for`: document 01 names the form ("Budget falls by one each
+// instruction").
+#[tactic(auto, using(crate::proofs::Runs::left_all, crate::proofs::Runs::left_out, crate::proofs::Runs::left_goes, crate::proofs::Runs::left_finish, crate::proofs::Runs::left_stop))]
 fn run_steps(
     start: Registers,
     memory: &mut [u16],
@@ -564,28 +455,28 @@ fn run_steps(
     let mut left = budget;
     while left > 0 {
         match r.step(memory, input, output) {
-            StepResult::Stopped(k) => {
+            Err(s) => {
                 return Ran {
-                    stop: k,
+                    stop: s.number(),
                     count: budget - left,
                     registers: r,
                 };
             }
-            StepResult::Finished(t) => {
+            Ok(Progress::Finished(t)) => {
                 return Ran {
-                    stop: 30,
+                    stop: Stop::Finished.number(),
                     count: budget - left + 1,
                     registers: t,
                 };
             }
-            StepResult::Done(t) => {
+            Ok(Progress::Done(t)) => {
                 r = t;
                 left -= 1;
             }
         }
     }
     Ran {
-        stop: 31,
+        stop: Stop::Budget.number(),
         count: budget,
         registers: r,
     }
@@ -603,18 +494,11 @@ pub fn resume(
     ensures { Ends (resume input.now budget (at registers memory.old output.old))
         result memory.new output.new }
 {
-    if memory.len() < 512 {
+    if !(512..=32768).contains(&memory.len()) {
         return Ran {
-            stop: 24,
+            stop: Stop::MemoryLength.number(),
             count: 0,
-            registers: registers,
-        };
-    }
-    if memory.len() > 32768 {
-        return Ran {
-            stop: 24,
-            count: 0,
-            registers: registers,
+            registers,
         };
     }
     run_steps(registers, memory, input, output, budget)
@@ -624,8 +508,7 @@ pub fn resume(
 fn allowed(done: u64, budget: u64) -> u64
     ensures { result ≡ allowed done budget }
 {
-    let left = 18446744073709551615 - done;
-    if budget <= left { budget } else { left }
+    budget.min(u64::MAX - done)
 }
 
 // Carries a first part on with a further budget, in the buffers that it was lent: what one run with both budgets gives. A first part that
@@ -634,21 +517,19 @@ pub fn carry_on(first: Ran, memory: &mut [u16], input: &[u8], output: &mut [u8],
     ensures { CarriesOn input.now first memory.old output.old budget
         result memory.new output.new }
 {
-    if first.stop != 31 {
+    if first.stop != Stop::Budget.number() {
         return first;
     }
-    let done = first.count;
-    let registers = first.registers;
-    let rest = resume(registers, memory, input, output, allowed(done, budget));
-    let left = rest.registers;
+    let more = allowed(first.count, budget);
+    let rest = resume(first.registers, memory, input, output, more);
     Ran {
-        stop: rest.stop,
-        count: done + rest.count,
-        registers: left,
+        count: first.count + rest.count,
+        ..rest
     }
 }
 
 // Runs an image from its start, with its first stack word.
+#[tactic(auto, using(crate::proofs::Runs::run_starts))]
 pub fn run(memory: &mut [u16], first: u16, input: &[u8], output: &mut [u8], budget: u64) -> Ran
     ensures { Ends (run first memory.old input.now output.old budget)
         result memory.new output.new }

@@ -7,7 +7,7 @@ use native.Mathlib.Nat.{div-lt_self, le-suc}
 use lib.IntN.{neg_ℤ-+ℤ}
 use lib.Signed.{mag, mag_rem, non_neg, quot_z, rem_z}
 use Rattle.words.specs.Words.{value, word_of, quot, rem}
-use Rattle.words.proofs.Laws.{halves, value_low, value-high, magnitude-positive}
+use Rattle.words.proofs.Laws.{value_low, value-high, magnitude-positive, value-small}
 
 -- ---- of the signed numbers
 
@@ -53,9 +53,6 @@ value-of-word (pos n) h = let e : n % 65536 ≡ n = omega arith in rw e (value_l
 value-of-word (negsuc n) h = let e : 65535 - n % 65536 ≡ 65535 - n = omega arith in
     let f : 65535 - (65535 - n) ≡ n = omega arith in
     rw e (value-high (65535 - n) (omega arith) ∙ ap negsuc f)
-
-value-small : (x : ℕ) → x < 65536 → mag (value x) < 32768
-value-small x h = halves x (λ l. rw (value_low x l) l) (λ l. rw (value-high x l) (omega arith))
 
 minus-small : (n b : ℕ) → n ≤ suc b → b < 32768 → mag (neg_ℤ (pos n)) < 32768
 minus-small zero b h k = omega arith

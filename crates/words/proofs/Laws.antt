@@ -1,12 +1,13 @@
--- What the functions' answers cite: a word's signed number by its half, the signed order, and each act from its parts.
-use Rattle.laws.proofs.Basics.{ℕ, zero, suc, ◌+◌, ◌-◌, ◌*◌, ◌/◌, ◌%◌, ◌^◌, ◌<◌, ◌≤◌, ◌≡◌, refl, sym, ap, ◌∙◌, Bool, true, false, not, cond, ltb, leb}
-use Rattle.laws.proofs.Basics.{lit<, lt_of_le_of_lt, arith, eq-eqb, ne_eqb, ltb-true, ltb-false, lt-ltb, le-ltb, le-leb, lt-leb}
+-- What the proofs of `quotient` and `remainder` and the laws of division cite: a word's signed number by its half, and the code's conversions.
+use Rattle.laws.proofs.Basics.{ℕ, zero, suc, ◌-◌, ◌/◌, ◌<◌, ◌≤◌, ◌≡◌, ap, ◌∙◌, ltb}
+use Rattle.laws.proofs.Basics.{arith, ne_eqb, ltb-true, ltb-false, lt-ltb, le-ltb}
 use Rattle.laws.proofs.Cases.{by_cases}
-use Rattle.std.proofs.Common.{ℤ, pos, negsuc, neg_ℤ, nat_abs, mul-le-mul}
-use lib.Signed.{non_neg, quot_z, rem_z}
-use Rattle.words.specs.Words.{value, word_of, add, neg, quot, rem, below, shl, shr}
+use Rattle.std.proofs.Common.{ℤ, pos, negsuc, neg_ℤ, nat_abs, div-le_self, Some, w16}
+use Rattle.std.specs.Int.{cast_signed, cast_unsigned}
+use Rattle.std.proofs.lemmas.Int.{of_z-to_z}
+use lib.Signed.{mag, mag_rem, quot_z, rem_z}
+use Rattle.words.specs.Words.{value, word_of, quot, rem}
 use Rattle.words.specs.Answers.{divided}
-use Rattle.words.specs.declared.Divided.TheVariants.{Is, ByZero}
 
 -- ---- the signed number of a word, by its half
 
@@ -22,109 +23,64 @@ value-high x h = simp (le-ltb x 32768 h)
 pub halves : {P : Type 0} (x : ℕ) → (x < 32768 → P) → (32768 ≤ x → P) → P
 halves {P} x low high = by_cases (ltb x 32768) (λ e. low (ltb-true x 32768 e)) (λ e. high (ltb-false x 32768 e))
 
-pub negative-is : (x : ℕ) → leb 32768 x ≡ not (non_neg (value x))
-negative-is x = halves x (λ h. simp (value_low x h, lt-leb 32768 x h)) (λ h. simp (value-high x h, le-leb 32768 x h))
-
 module _ (x : ℕ) (h : x < 65536) where
-  pub magnitude-high : 32768 ≤ x → 65535 - x + 1 ≡ nat_abs (value x)
-  magnitude-high k = simp (value-high x k) (omega arith)
-
   pub magnitude-positive : (x ≡ 0 → ⊥) → 0 < nat_abs (value x)
   magnitude-positive k = halves x (λ l. simp (value_low x l) (omega arith)) (λ l. simp (value-high x l) (omega arith))
 
-pub magnitude-low : (x : ℕ) → x < 32768 → x ≡ nat_abs (value x)
-magnitude-low x k = simp (value_low x k)
+pub value-small : (x : ℕ) → x < 65536 → mag (value x) < 32768
+value-small x h = halves x (λ l. rw (value_low x l) l) (λ l. rw (value-high x l) (omega arith))
 
--- ---- the signed order: adding 32768 keeps it
+-- ---- quotient and remainder: the signed numbers' own, by the bits that they are in
 
-same_test : (a b c d : ℕ) → (a < b → c < d) → (b ≤ a → d ≤ c) → ltb a b ≡ ltb c d
-same_test a b c d f g = by_cases (ltb a b) (λ e. e ∙ sym (lt-ltb c d (f (ltb-true a b e)))) (λ e. e ∙ sym (le-ltb c d (g (ltb-false a b e))))
+-- a word's bits stand for its signed number
+value-is : (x : ℕ) → cast_signed w16 x ≡ value x
+unfolding value
+value-is x = halves x (λ l. simp (lt-ltb x 32768 l)) (λ l. simp (le-ltb x 32768 l) (ap negsuc (omega arith)))
 
-pub below-is : {p q : ℕ} (x y : ℕ) → x < 65536 → y < 65536 → p ≡ add x 32768 → q ≡ add y 32768 → ltb p q ≡ below x y
-unfolding below
-below-is {p} {q} x y hx hy hp hq = halves x (λ a. halves y
-    (λ b. simp (value_low x a, value_low y b) (same_test p q x y (λ h. omega arith) (λ h. omega arith)))
-    (λ b. simp (value_low x a, value-high y b) (le-ltb p q (omega arith)))) (λ a. halves y
-    (λ b. simp (value-high x a, value_low y b) (lt-ltb p q (omega arith)))
-    (λ b. simp (value-high x a, value-high y b) (same_test p q (65535 - y) (65535 - x) (λ h. omega arith) (λ h. omega arith))))
-
--- ---- the word of a sign and a size
-
-pub minus_is : (n : ℕ) → n < 65536 → word_of (neg_ℤ (pos n)) ≡ neg n
+-- and a signed number's bits are its word
+word-is : (z : ℤ) → mag z < 65536 → cast_unsigned w16 z ≡ word_of z
 unfolding word_of
-minus_is zero h = refl
-minus_is (suc n) h = omega arith
+word-is (pos n) h = omega arith
+word-is (negsuc n) h = omega arith
 
-pub signed-minus : {m : Bool} {r : ℕ} (n : ℕ) → n < 65536 → m ≡ true → r ≡ neg n → r ≡ word_of (cond m (neg_ℤ (pos n)) (pos n))
-signed-minus n h e k = rw e (k ∙ sym (minus_is n h))
+minus-size : (n : ℕ) → mag (neg_ℤ (pos n)) ≤ n
+minus-size zero = omega arith
+minus-size (suc n) = omega arith
 
-pub signed-plus : {m : Bool} (n : ℕ) → n < 65536 → m ≡ false → n ≡ word_of (cond m (neg_ℤ (pos n)) (pos n))
-unfolding word_of
-signed-plus n h e = rw e (omega arith)
+-- every quotient is below 32768, but for that of -32768 and -1, which is 32768
+quot-size : (p q : ℤ) → mag p < 32768 → mag (quot_z p q) < 65536
+quot-size (pos a) (pos b) h = omega (arith, div-le_self a b)
+quot-size (pos a) (negsuc b) h = omega (arith, div-le_self a (suc b), minus-size (a / suc b))
+quot-size (negsuc a) (pos b) h = omega (arith, div-le_self (suc a) b, minus-size (suc a / b))
+quot-size (negsuc a) (negsuc b) h = omega (arith, div-le_self (suc a) (suc b))
 
--- ---- quotient and remainder, by the signs and the sizes
+divided-is : (y : ℕ) {r v : ℕ} → (y ≡ 0 → ⊥) → r ≡ v → Some r ≡ divided y v
+divided-is y h e = simp (ne_eqb y 0 h) (ap Some e)
 
-abbrev differ : Bool → Bool → Bool
-differ true t = not t
-differ false t = t
+bits-below : (z : ℤ) → mag z < 65536 → cast_unsigned w16 z < 65536
+bits-below (pos n) h = h
+bits-below (negsuc n) h = omega arith
 
-abbrev minus : ℤ → Bool
-minus z = not (non_neg z)
+-- the code's conversions to bits and back, of a word and of a result
+there-and-back : {n : ℕ} {z : ℤ} → n < 65536 → z ≡ cast_signed w16 n → cast_signed w16 (cast_unsigned w16 z) ≡ value n
+there-and-back {n} h e = rw (e, of_z-to_z w16 n h) (value-is n)
 
-quot-signs : (p q : ℤ) → quot_z p q ≡ cond (differ (minus p) (minus q)) (neg_ℤ (pos (nat_abs p / nat_abs q))) (pos (nat_abs p / nat_abs q))
-quot-signs (pos a) (pos b) = refl
-quot-signs (pos a) (negsuc b) = refl
-quot-signs (negsuc a) (pos b) = refl
-quot-signs (negsuc a) (negsuc b) = refl
+word-back : {r : ℤ} (z : ℤ) → mag z < 65536 → r ≡ z → cast_unsigned w16 (cast_signed w16 (cast_unsigned w16 r)) ≡ word_of z
+word-back z h e = rw (e, of_z-to_z w16 (cast_unsigned w16 z) (bits-below z h)) (word-is z h)
 
-rem-signs : (p q : ℤ) → rem_z p q ≡ cond (minus p) (neg_ℤ (pos (nat_abs p % nat_abs q))) (pos (nat_abs p % nat_abs q))
-rem-signs (pos a) q = refl
-rem-signs (negsuc a) q = refl
+word-back-wrapped : {r : ℤ} (z : ℤ) → mag z < 65536 → r ≡ cast_signed w16 (cast_unsigned w16 z)
+    → cast_unsigned w16 (cast_signed w16 (cast_unsigned w16 r)) ≡ word_of z
+word-back-wrapped z h e = let b = of_z-to_z w16 (cast_unsigned w16 z) (bits-below z h) in rw (e, b, b) (word-is z h)
 
-pub by_zero : (y v : ℕ) → y ≡ 0 → ByZero ≡ divided y v
-unfolding divided
-by_zero y v e = simp (eq-eqb y 0 e)
+module _ {x y : ℕ} {p q r : ℤ} {s : ℕ} (hx : x < 65536) (hy : y < 65536) (nz : y ≡ 0 → ⊥) (hp : p ≡ cast_signed w16 x) (hq : q ≡ cast_signed w16 y)
+    (hs : s ≡ cast_unsigned w16 (cast_signed w16 (cast_unsigned w16 r))) where
+  pub quot_is : r ≡ cast_signed w16 (cast_unsigned w16 (quot_z (cast_signed w16 (cast_unsigned w16 p)) (cast_signed w16 (cast_unsigned w16 q))))
+      → Some s ≡ divided y (quot x y)
+  unfolding quot
+  quot_is e = divided-is y nz (hs ∙ word-back-wrapped (quot_z (value x) (value y)) (quot-size (value x) (value y) (value-small x hx))
+      (simp (there-and-back hx hp, there-and-back hy hq) at e))
 
-divided-is : (y : ℕ) {r v : ℕ} → (y ≡ 0 → ⊥) → r ≡ v → Is r ≡ divided y v
-unfolding divided
-divided-is y h e = simp (ne_eqb y 0 h) (ap Is e)
-
-module _ (x y : ℕ) {a b r : ℕ} {u : Bool} (nz : y ≡ 0 → ⊥) (ha : a ≡ nat_abs (value x)) (hb : b ≡ nat_abs (value y)) (hu : u ≡ not (non_neg (value x)))
-  where
-    pub quot-minus : {v : Bool} → u ≡ true → v ≡ not (non_neg (value y)) → r ≡ word_of (cond (not v) (neg_ℤ (pos (a / b))) (pos (a / b)))
-        → Is r ≡ divided y (quot x y)
-    unfolding quot
-    quot-minus e hv h = divided-is y nz (simp (quot-signs, ← ha, ← hb, ← hu, ← hv, e) h)
-
-    pub quot-plus : {v : Bool} → u ≡ false → v ≡ not (non_neg (value y)) → r ≡ word_of (cond v (neg_ℤ (pos (a / b))) (pos (a / b)))
-        → Is r ≡ divided y (quot x y)
-    unfolding quot
-    quot-plus e hv h = divided-is y nz (simp (quot-signs, ← ha, ← hb, ← hu, ← hv, e) h)
-
-    pub rem_is : r ≡ word_of (cond u (neg_ℤ (pos (a % b))) (pos (a % b))) → Is r ≡ divided y (rem x y)
-    unfolding rem
-    rem_is h = divided-is y nz (simp (rem-signs, ← ha, ← hb, ← hu) h)
-
--- ---- products and shifts
-
-pub wide : {x y : ℕ} → x < 65536 → y < 65536 → x * y < 2 ^ 32
-wide {x} {y} hx hy = let a : x ≤ 65535 = omega arith in
-    let b : y ≤ 65535 = omega arith in
-    lt_of_le_of_lt (mul-le-mul a b) (lit< tt)
-
-module _ (x n : ℕ) where
-  pub shl-in : n < 16 → (x * 2 ^ n) % 65536 ≡ shl x n
-  unfolding shl
-  shl-in h = simp (lt-ltb n 16 h)
-
-  pub shl-out : 16 ≤ n → 0 ≡ shl x n
-  unfolding shl
-  shl-out h = simp (le-ltb n 16 h)
-
-  pub shr-in : n < 16 → x / 2 ^ n ≡ shr x n
-  unfolding shr
-  shr-in h = simp (lt-ltb n 16 h)
-
-  pub shr-out : 16 ≤ n → 0 ≡ shr x n
-  unfolding shr
-  shr-out h = simp (le-ltb n 16 h)
+  pub rem_is : r ≡ rem_z (cast_signed w16 (cast_unsigned w16 p)) (cast_signed w16 (cast_unsigned w16 q)) → Some s ≡ divided y (rem x y)
+  unfolding rem
+  rem_is e = divided-is y nz (hs ∙ word-back (rem_z (value x) (value y)) (omega (arith, mag_rem (value x) (value y), value-small x hx))
+      (simp (there-and-back hx hp, there-and-back hy hq) at e))

@@ -1,7 +1,5 @@
--- What the code's answer enum says: a quotient or remainder, or that the divisor is zero.
-use Rattle.std.specs.Prelude.{ℕ, cond, ◌==◌}
-use Rattle.words.specs.declared.Divided.{Divided}
-use Rattle.words.specs.declared.Divided.TheVariants.{Is, ByZero}
+-- What the code answers for a quotient or a remainder: none where the divisor is zero.
+use Rattle.std.specs.Prelude.{ℕ, cond, ◌==◌, Option, Some, None}
 
-unfoldable pub divided : ℕ → ℕ → Divided
-divided divisor v = cond (divisor == 0) ByZero (Is v)
+abbrev pub divided : ℕ → ℕ → Option ℕ
+divided divisor v = cond (divisor == 0) None (Some v)
