@@ -4,9 +4,8 @@ use Rattle.laws.proofs.Basics.{drop-drop, arith}
 use Rattle.laws.proofs.Cases.{contradiction}
 use Rattle.text.specs.Quoted.{is, closing, ended, mistake, character, Quoted, closed, unclosed, faulty, fault_before, quoted}
 use Rattle.text.specs.Parts.{is_closed, widened}
-use Rattle.text.specs.Answers.{as_quoted}
-use Rattle.text.specs.declared.Quoted as D
-use Rattle.text.specs.declared.Quoted.TheVariants.{Closed, Unclosed, Faulty}
+use Rattle.text.specs.Answers as A
+use Rattle.text.specs.Answers.{Found, counted}
 use Rattle.text.proofs.Answers.{Counted}
 use Rattle.text.proofs.Quotes as Q
 use Rattle.text.proofs.Quotes.{onward, quoted-next, quoted-end, quoted-ended, quoted-mistake, quoted-full, closed-fault, closed-alike}
@@ -33,20 +32,20 @@ module _ (quote : ℕ) (text : List ℕ) (i : ℕ) where
 -- ---- a fault in it
 
 module _ (number offset : ℕ) (q : Quoted) where
-  pub fault-closed : is_closed q ≡ true → Faulty number offset ≡ as_quoted (widened offset (fault_before number q))
-  unfolding as_quoted
+  pub fault-closed : is_closed q ≡ true → A.faulty number offset ≡ counted (widened offset (fault_before number q))
+  unfolding counted
   fault-closed = by q
     where
-      by : (q : Quoted) → is_closed q ≡ true → Faulty number offset ≡ as_quoted (widened offset (fault_before number q))
-      by (closed cs n) e = ap (Faulty number) (omega arith)
+      by : (q : Quoted) → is_closed q ≡ true → A.faulty number offset ≡ counted (widened offset (fault_before number q))
+      by (closed cs n) e = ap (A.faulty number) (omega arith)
       by unclosed e = contradiction cc
-      by (faulty k n) e = ap (Faulty number) (omega arith)
+      by (faulty k n) e = ap (A.faulty number) (omega arith)
 
-  pub fault-unclosed : is_closed q ≡ false → Unclosed ≡ as_quoted (widened offset (fault_before number q))
-  unfolding as_quoted
+  pub fault-unclosed : is_closed q ≡ false → A.unclosed ≡ counted (widened offset (fault_before number q))
+  unfolding counted
   fault-unclosed = by q
     where
-      by : (q : Quoted) → is_closed q ≡ false → Unclosed ≡ as_quoted (widened offset (fault_before number q))
+      by : (q : Quoted) → is_closed q ≡ false → A.unclosed ≡ counted (widened offset (fault_before number q))
       by (closed cs n) e = contradiction cc
       by unclosed e = refl
       by (faulty k n) e = contradiction cc
@@ -65,60 +64,60 @@ fault-alike number (faulty j n) (faulty k m) e = refl
 
 -- ---- the whole of it, n characters and k bytes before those that are read
 
-abbrev pub added : (n k : ℕ) → D.Quoted → D.Quoted
-added n k = elim [ Closed m w ↦ Closed (n + m) (k + w) | Unclosed ↦ Unclosed | Faulty number w ↦ Faulty number (k + w) ]
+abbrev pub added : (n k : ℕ) → Found → Found
+added n k = elim [ A.closed m w ↦ A.closed (n + m) (k + w) | A.unclosed ↦ A.unclosed | A.faulty number w ↦ A.faulty number (k + w) ]
 
-added_none : (k : ℕ) → k ≡ 0 → (r : D.Quoted) → r ≡ added 0 k r
-added_none k e (Closed m w) = let a : m ≡ 0 + m = omega arith in let b : w ≡ k + w = omega arith in cc
-added_none k e Unclosed = refl
-added_none k e (Faulty number w) = ap (Faulty number) (omega arith)
+added_none : (k : ℕ) → k ≡ 0 → (r : Found) → r ≡ added 0 k r
+added_none k e (A.closed m w) = let a : m ≡ 0 + m = omega arith in let b : w ≡ k + w = omega arith in cc
+added_none k e A.unclosed = refl
+added_none k e (A.faulty number w) = ap (A.faulty number) (omega arith)
 
 pub constant-start : (quote room : ℕ) (text : List ℕ) (at : ℕ)
-    → as_quoted (quoted quote room 0 (drop at text)) ≡ added 0 (at - at) (as_quoted (quoted quote (room - 0) 0 (drop at text)))
+    → counted (quoted quote room 0 (drop at text)) ≡ added 0 (at - at) (counted (quoted quote (room - 0) 0 (drop at text)))
 constant-start quote room text at = let z : room - 0 ≡ room = omega arith in rw z (added_none (at - at) (omega arith) _)
 
 module _ (quote room : ℕ) (text : List ℕ) (at i n : ℕ) where
-  abbrev left : D.Quoted
-  left = added n (i - at) (as_quoted (quoted quote (room - n) 0 (drop i text)))
+  abbrev left : Found
+  left = added n (i - at) (counted (quoted quote (room - n) 0 (drop i text)))
 
   pub constant-next : {v w : ℕ} → character quote (drop i text) ≡ is v w → n < room → at ≤ i
-      → left ≡ added (n + 1) (i + w - at) (as_quoted (quoted quote (room - (n + 1)) 0 (drop (i + w) text)))
-  unfolding as_quoted
+      → left ≡ added (n + 1) (i + w - at) (counted (quoted quote (room - (n + 1)) 0 (drop (i + w) text)))
+  unfolding counted
   constant-next {v} {w} e l h = let z : room - n ≡ suc (room - (n + 1)) = omega arith in
       rw (z, quoted-next quote (room - (n + 1)) (drop i text) e, drop-drop w i text) (by (quoted quote (room - (n + 1)) 0 (drop (i + w) text)))
     where
-      by : (q : Quoted) → added n (i - at) (as_quoted (onward v w q)) ≡ added (n + 1) (i + w - at) (as_quoted q)
+      by : (q : Quoted) → added n (i - at) (counted (onward v w q)) ≡ added (n + 1) (i + w - at) (counted q)
       by (closed cs m) = let a : n + suc (length cs) ≡ n + 1 + length cs = omega arith in let b : i - at + (w + m) ≡ i + w - at + m = omega arith in
           cc
       by unclosed = refl
-      by (faulty k m) = ap (Faulty k) (omega arith)
+      by (faulty k m) = ap (A.faulty k) (omega arith)
 
-  pub constant-end : character quote (drop i text) ≡ closing → Closed n (i - at + 1) ≡ left
-  unfolding as_quoted
-  constant-end e = rw (quoted-end quote (room - n) (drop i text) e) (ap (λ (m : ℕ). Closed m (i - at + 1)) (omega arith))
+  pub constant-end : character quote (drop i text) ≡ closing → A.closed n (i - at + 1) ≡ left
+  unfolding counted
+  constant-end e = rw (quoted-end quote (room - n) (drop i text) e) (ap (λ (m : ℕ). A.closed m (i - at + 1)) (omega arith))
 
-  pub constant-unclosed : character quote (drop i text) ≡ ended → Unclosed ≡ left
-  unfolding as_quoted
+  pub constant-unclosed : character quote (drop i text) ≡ ended → A.unclosed ≡ left
+  unfolding counted
   constant-unclosed e = rw (quoted-ended quote (room - n) (drop i text) e)
 
-  moved : (number : ℕ) (q : Quoted) → as_quoted (widened (i - at) (fault_before number q)) ≡ added n (i - at) (as_quoted (fault_before number q))
-  unfolding as_quoted
+  moved : (number : ℕ) (q : Quoted) → counted (widened (i - at) (fault_before number q)) ≡ added n (i - at) (counted (fault_before number q))
+  unfolding counted
   moved number = elim [ closed cs m ↦ refl | unclosed ↦ refl | faulty k m ↦ refl ]
 
   module _ (number : ℕ) (q : Quoted) (e : quoted quote (room - n) 0 (drop i text) ≡ fault_before number q) where
     faulted : is_closed (quoted quote 0 0 (drop i text)) ≡ is_closed q
     faulted = sym (closed-alike quote (room - n) 0 (drop i text)) ∙ ap is_closed e ∙ closed-fault number q
 
-    constant-fault : as_quoted (widened (i - at) (fault_before number (quoted quote 0 0 (drop i text)))) ≡ left
+    constant-fault : counted (widened (i - at) (fault_before number (quoted quote 0 0 (drop i text)))) ≡ left
     constant-fault = rw (fault-alike number (quoted quote 0 0 (drop i text)) q faulted, e) (moved number q)
 
   pub constant-mistake : {number : ℕ} → character quote (drop i text) ≡ mistake number
-      → as_quoted (widened (i - at) (fault_before number (quoted quote 0 0 (drop i text)))) ≡ left
+      → counted (widened (i - at) (fault_before number (quoted quote 0 0 (drop i text)))) ≡ left
   constant-mistake {number} e =
       constant-fault number (quoted quote (room - n) 0 (drop 1 (drop i text))) (quoted-mistake quote (room - n) (drop i text) e)
 
   pub constant-full : {v w : ℕ} → character quote (drop i text) ≡ is v w → n ≡ room
-      → as_quoted (widened (i - at) (fault_before 43 (quoted quote 0 0 (drop i text)))) ≡ left
+      → counted (widened (i - at) (fault_before 43 (quoted quote 0 0 (drop i text)))) ≡ left
   constant-full {w = w} e k =
       constant-fault 43 (quoted quote 0 0 (drop w (drop i text))) (let z : room - n ≡ 0 = omega arith in rw z (quoted-full quote (drop i text) e))
 

@@ -1,9 +1,10 @@
 -- Characters between quotes: one at a time, and what every reading of them satisfies.
 use Rattle.laws.proofs.Basics.{ℕ, zero, suc, ◌+◌, ◌-◌, ◌<◌, ◌≤◌, ◌≡◌, refl, sym, ap, ◌∙◌, List, [], ◌∷◌, true, false, ◌&&◌, cond, length, get_or}
 use Rattle.laws.proofs.Basics.{drop}
-use Rattle.laws.proofs.Basics.{length-drop, eqb, leb, arith, eq-eqb, ne_eqb, leb-true, le-leb, lt-leb}
+use Rattle.laws.proofs.Basics.{length-drop, eqb, leb, arith, eq-eqb, ne_eqb, leb-true, le-leb}
+use Rattle.std.specs.Prelude.{Option, Some, None}
 use Rattle.laws.proofs.Cases.{by_cases, either, contradiction, both_true}
-use Rattle.text.proofs.Bytes.{Unlike, at_byte, past_end}
+use Rattle.text.proofs.Bytes.{Unlike}
 use Rattle.text.specs.Quoted.{Character, is, closing, ended, mistake, digit, number_of, by_digits, by_number, escape, character}
 use Rattle.text.specs.Quoted.{Quoted, closed, unclosed, faulty, wider, after, fault_before, on_character, quoted}
 use Rattle.text.specs.Parts.{value_of, is_closed, widened}
@@ -21,19 +22,6 @@ module _ (quote c : ℕ) (r : List ℕ) where
     at-asterisk e = rw (ne_eqb c quote other, eq-eqb c 42 e)
 
     module _ (no-escape : c ≡ 42 → ⊥) where
-      pub at-newline : c ≡ 10 → character quote (c ∷ r) ≡ ended
-      unfolding character
-      at-newline e = rw (ne_eqb c quote other, ne_eqb c 42 no-escape, eq-eqb c 10 e)
-
-      pub at-control : (c ≡ 10 → ⊥) → c < 32 → character quote (c ∷ r) ≡ mistake 42
-      unfolding character
-      at-control n h = rw (ne_eqb c quote other, ne_eqb c 42 no-escape, ne_eqb c 10 n, lt-leb 32 c h)
-
-      pub at_high : 126 < c → character quote (c ∷ r) ≡ mistake 42
-      unfolding character
-      at_high h = let k : 32 ≤ c = omega arith in
-          rw (ne_eqb c quote other, ne_eqb c 42 no-escape, ne_eqb c 10 (λ n. omega arith), le-leb 32 c k, lt-leb c 126 h)
-
       pub at_plain : 32 ≤ c → c ≤ 126 → character quote (c ∷ r) ≡ is c 1
       unfolding character
       at_plain l h = rw (ne_eqb c quote other, ne_eqb c 42 no-escape, ne_eqb c 10 (λ n. omega arith), le-leb 32 c l, le-leb c 126 h)
@@ -52,77 +40,14 @@ no-letter c r h = rw (
   ne_eqb c 34 h.1,
 )
 
--- at a place of a text
-module _ (text : List ℕ) (at : ℕ) where
-  pub character-past : (quote : ℕ) → length text ≤ at → character quote (drop at text) ≡ ended
-  unfolding character
-  character-past quote h = past_end (character quote) text at h
-
-  pub escape-past : length text ≤ at → escape (drop at text) ≡ mistake 41
-  unfolding escape
-  escape-past h = past_end escape text at h
-
-  module _ (h : at < length text) where
-    pub character-here : (quote : ℕ) {ch : Character} → character quote (get_or text at 0 ∷ drop (at + 1) text) ≡ ch
-        → character quote (drop at text) ≡ ch
-    character-here quote e = at_byte (character quote) text at h refl ∙ e
-
-    pub escape-here : {c : ℕ} {ch : Character} → get_or text at 0 ≡ c → escape (c ∷ drop (at + 1) text) ≡ ch → escape (drop at text) ≡ ch
-    escape-here k e = at_byte escape text at h k ∙ e
-
-    pub by-number-here : Unlike (get_or text at 0) (34 ∷ 39 ∷ 42 ∷ 67 ∷ 80 ∷ 66 ∷ 84 ∷ 83 ∷ 78 ∷ []) → by_number (drop at text) ≡ escape (drop at text)
-    by-number-here u = at_byte by_number text at h refl ∙ sym (at_byte escape text at h refl ∙ no-letter _ _ u)
-
 -- ---- a character by its number
 
 pub digit-bounds : (c : ℕ) → digit c ≡ true → (48 ≤ c) × (c ≤ 57)
 digit-bounds c e = by_cases (leb 48 c) (λ l. (leb-true 48 c l, leb-true c 57 (rw l at e))) (λ l. let z : false ≡ true = rw l at e in contradiction cc)
 
-pub digit-least : (c : ℕ) → digit c ≡ true → 48 ≤ c
-digit-least c e = (digit-bounds c e).0
-
-module _ (a b c : ℕ) where
-  pub no-first : digit a ≡ false → by_digits a b c ≡ mistake 41
-  unfolding by_digits
-  no-first e = rw e
-
-  module _ (x : digit a ≡ true) where
-    pub no_second : digit b ≡ false → by_digits a b c ≡ mistake 41
-    unfolding by_digits
-    no_second e = rw (x, e)
-
-    module _ (y : digit b ≡ true) where
-      pub no_third : digit c ≡ false → by_digits a b c ≡ mistake 41
-      unfolding by_digits
-      no_third e = rw (x, y, e)
-
-      module _ (z : digit c ≡ true) where
-        pub too_large : {n : ℕ} → n ≡ number_of a b c → 255 < n → by_digits a b c ≡ mistake 41
-        unfolding by_digits
-        too_large e h = rw (x, y, z, ← e, lt-leb _ 255 h)
-
-        pub a_byte : {n : ℕ} → n ≡ number_of a b c → n ≤ 255 → by_digits a b c ≡ is n 4
-        unfolding by_digits
-        a_byte e h = rw (x, y, z, ← e, le-leb _ 255 h)
-
--- the digits at a place, if there are three bytes
-module _ (text : List ℕ) (at : ℕ) where
-  pub three-bytes : at + 3 ≤ length text → by_number (drop at text) ≡ by_digits (get_or text at 0) (get_or text (at + 1) 0) (get_or text (at + 2) 0)
-  unfolding by_number
-  three-bytes h = let e : at + 1 + 1 ≡ at + 2 = omega arith in
-      at_byte by_number text at (omega arith) refl ∙
-      at_byte (λ (l : List ℕ). by_number (get_or text at 0 ∷ l)) text (at + 1) (omega arith) refl ∙
-      at_byte (λ (l : List ℕ). by_number (get_or text at 0 ∷ get_or text (at + 1) 0 ∷ l)) text (at + 1 + 1) (omega arith) (rw e)
-
-  pub few_bytes : length text < at + 3 → by_number (drop at text) ≡ mistake 41
-  unfolding by_number
-  few_bytes h = by (drop at text) (length-drop at text)
-    where
-      by : (l : List ℕ) → length l ≡ length text - at → by_number l ≡ mistake 41
-      by [] e = refl
-      by (a ∷ []) e = refl
-      by (a ∷ b ∷ []) e = refl
-      by (a ∷ b ∷ c ∷ r) e = absurd (omega arith)
+pub a_byte : (a b c : ℕ) → digit a ≡ true → digit b ≡ true → digit c ≡ true → {n : ℕ} → n ≡ number_of a b c → n ≤ 255 → by_digits a b c ≡ is n 4
+unfolding by_digits
+a_byte a b c x y z e h = rw (x, y, z, ← e, le-leb _ 255 h)
 
 -- ---- a character's value and width
 
@@ -337,23 +262,27 @@ is-closed quote room k bytes e = rw e at (quoted-each quote room k bytes)
 pub fault-within : (quote room k : ℕ) (bytes : List ℕ) {number w : ℕ} → quoted quote room k bytes ≡ faulty number w → w < length bytes
 fault-within quote room k bytes e = rw e at (quoted-each quote room k bytes)
 
--- the first of its characters
-pub first-is : (quote room : ℕ) (bytes : List ℕ) {c : ℕ} {cs : List ℕ} {w : ℕ} → quoted quote room 0 bytes ≡ closed (c ∷ cs) w
-    → value_of (character quote bytes) ≡ c
-unfolding quoted
-first-is quote room [] e = contradiction cc
-first-is quote room (b ∷ r) {c} {cs} {w} e = by (character quote (b ∷ r)) room e
-  where
-    after_first : (v : ℕ) (q : Quoted) → after v q ≡ closed (c ∷ cs) w → v ≡ c
-    after_first v = elim [ closed ds n ↦ λ k. cc | unclosed ↦ λ k. contradiction cc | faulty number n ↦ λ k. contradiction cc ]
+-- the first of its characters, if it has any
+abbrev pub first : List ℕ → Option ℕ
+first [] = None
+first (c ∷ cs) = Some c
 
-    no-fault : {A : Type 0} (number : ℕ) (q : Quoted) → fault_before number q ≡ closed (c ∷ cs) w → A
+pub first-is : (quote room : ℕ) (bytes : List ℕ) {cs : List ℕ} {w : ℕ} → quoted quote room 0 bytes ≡ closed cs w
+    → value_of (character quote bytes) ≡ first cs
+unfolding quoted character
+first-is quote room [] e = contradiction cc
+first-is quote room (b ∷ r) {cs} {w} e = by (character quote (b ∷ r)) room e
+  where
+    after_first : (v : ℕ) (q : Quoted) → after v q ≡ closed cs w → Some v ≡ first cs
+    after_first v = elim [ closed ds n ↦ λ k. let e : v ∷ ds ≡ cs = cc in ap first e | unclosed ↦ λ k. contradiction cc | faulty number n ↦ λ k. contradiction cc ]
+
+    no-fault : {A : Type 0} (number : ℕ) (q : Quoted) → fault_before number q ≡ closed cs w → A
     no-fault number = elim [ closed ds n ↦ λ k. contradiction cc | unclosed ↦ λ k. contradiction cc | faulty j n ↦ λ k. contradiction cc ]
 
-    by : (ch : Character) (room : ℕ) → on_character ch room (λ a k. quoted quote a k r) ≡ closed (c ∷ cs) w → value_of ch ≡ c
+    by : (ch : Character) (room : ℕ) → on_character ch room (λ a k. quoted quote a k r) ≡ closed cs w → value_of ch ≡ first cs
     by (is v n) (suc a) k = after_first v (quoted quote a (n - 1) r) k
     by (is v n) zero k = no-fault 43 (quoted quote 0 (n - 1) r) k
-    by closing room k = contradiction cc
+    by closing room k = let e : [] ≡ cs = cc in ap first e
     by ended room k = contradiction cc
     by (mistake number) room k = no-fault number (quoted quote room 0 r) k
 

@@ -1,5 +1,7 @@
 -- Lines of a text, and a refusal with its place and line (document 01, "Refusal numbers").
-use Rattle.std.specs.Prelude.{ℕ, suc, cond, List, [], ◌∷◌, take, eqb}
+use Rattle.std.specs.Prelude.{ℕ, suc, cond, List, [], ◌∷◌, ◌++◌, take, eqb}
+use Rattle.std.specs.Fmt.{decimal}
+use Rattle.text.specs.Written.{bytes}
 use Rattle.text.specs.declared.Refusal.{Refusal}
 
 unfoldable pub newlines : List ℕ → ℕ
@@ -12,3 +14,7 @@ line_of text place = suc (newlines (take place text))
 
 unfoldable pub refusal : List ℕ → ℕ → ℕ → Refusal
 refusal text number place = record { number = number; place = place; line = line_of text place }
+
+-- a refusal in words
+abbrev pub refusal_text : Refusal → List ℕ
+refusal_text r = bytes "refused " ++ (decimal r.number ++ (bytes " at " ++ (decimal r.place ++ (bytes " line " ++ decimal r.line))))

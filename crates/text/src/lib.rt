@@ -3,13 +3,15 @@
 
 mod faults;
 
-ghost use Rattle.std.specs.Prelude.{◌≡◌, drop};
-ghost use Rattle.text.specs.Line.{line_of, refusal};
-ghost use Rattle.text.specs.Quoted.{digit, by_digits, by_number, escape, character, fault_before, quoted};
+ghost use Rattle.std.specs.Prelude.{◌≡◌, ◌==◌, Some, Err, count_by, drop, take};
+ghost use Rattle.text.specs.Faults.{number_of};
+ghost use Rattle.text.specs.Line.{line_of, refusal, refusal_text};
+ghost use Rattle.text.specs.Quoted.{by_digits, by_number, escape, character, fault_before, quoted};
 ghost use Rattle.text.specs.Parts.{value_of, is_closed, widened};
-ghost use Rattle.text.specs.Answers.{as_character, as_quoted};
+ghost use Rattle.text.specs.Answers.{as_written, found, counted};
 
 pub use faults::{Fault, UnknownNumber};
+use std::fmt;
 
 // A refusal: document 01's number, the place of the byte (from 0) and its line (from 1).
 #[derive(Drop)]
@@ -19,166 +21,144 @@ pub struct Refusal {
     pub line: usize,
 }
 
-// What stands at a place between quotes: a character and the bytes that write it, the closing quote, a newline or the end, or a mistake, by the
-// number of its refusal in a source.
-#[derive(Drop)]
+impl fmt::Display for Refusal {
+    ghost output = { λ r. Some (refusal_text r) };
+
+    fn fmt<W: fmt::Write>(&self, f: &mut fmt::Formatter<W>) -> fmt::Result {
+        write!(
+            f,
+            "refused {} at {} line {}",
+            self.number, self.place, self.line
+        )
+    }
+}
+
+// What stands at a place between quotes: a character and the bytes that write it, the closing quote, a newline or the end, or a mistake.
+#[derive(Clone, Copy)]
 pub enum Character {
     Is(u8, usize),
     Closing,
     Ended,
-    Mistake(u16),
+    Mistake(Fault),
 }
 
-// A constant from past its opening quote on: how many characters it has, and how many bytes write them and the closing quote; one that is not
-// closed; or the number of the first fault and how many bytes stand before it.
-#[derive(Drop)]
-pub enum Quoted {
-    Closed(usize, usize),
+// A constant that is closed, from past its opening quote on: how many characters it has, and how many bytes write them and the closing quote.
+#[derive(Clone, Copy)]
+pub struct Closed {
+    pub characters: usize,
+    pub width: usize,
+}
+
+// What is wrong with a constant: it is not closed; or its first fault, and how many bytes stand before that.
+#[derive(Clone, Copy)]
+pub enum Flaw {
     Unclosed,
-    Faulty(u16, usize),
+    Faulty { fault: Fault, offset: usize },
 }
 
-const ESCAPE: u16 = 41;
-
-const BYTE: u16 = 42;
-
-const LENGTH: u16 = 43;
+// How many newlines stand before a place.
+fn newlines(text: &[u8], place: usize) -> usize
+    ensures { result ≡ count_by (λ c. c == 10) (take place text.now) }
+{
+    text.iter().take(place).filter(|c| **c == b'\n').count()
+}
 
 // A place past the end is on the last line.
+#[tactic(auto, using(crate::proofs::Lines::counted_line))]
 pub fn line_of(text: &[u8], place: usize) -> usize
     ensures { result ≡ line_of text.now place }
 {
-    let mut line: usize = 1;
-    let mut i: usize = 0;
-    while i < text.len() {
-        if i == place {
-            return line;
-        }
-        if text[i] == b'\n' {
-            line += 1;
-        }
-        i += 1;
-    }
-    line
+    1 + newlines(text, place)
 }
 
+#[tactic(auto, unfolding(crate::specs::Line::refusal))]
 pub fn refuse(text: &[u8], number: u16, place: usize) -> Refusal
     ensures { result ≡ refusal text.now number place }
 {
     let line = line_of(text, place);
     Refusal {
-        number: number,
-        place: place,
-        line: line,
+        number,
+        place,
+        line,
     }
-}
-
-fn is_digit(c: u8) -> bool
-    ensures { result ≡ digit c }
-{
-    if c < b'0' { false } else { c <= b'9' }
 }
 
 // Three digits for a byte.
+#[tactic(auto, unfolding(crate::specs::Quoted::by_digits))]
 fn by_digits(a: u8, b: u8, c: u8) -> Character
-    ensures { result ≡ as_character (by_digits a b c) }
+    ensures { as_written result ≡ by_digits a b c }
 {
-    if !is_digit(a) {
-        return Character::Mistake(ESCAPE);
-    }
-    if !is_digit(b) {
-        return Character::Mistake(ESCAPE);
-    }
-    if !is_digit(c) {
-        return Character::Mistake(ESCAPE);
+    if !(a.is_ascii_digit() && b.is_ascii_digit() && c.is_ascii_digit()) {
+        return Character::Mistake(Fault::Escape);
     }
     let number = (a - b'0') as u16 * 100 + (b - b'0') as u16 * 10 + (c - b'0') as u16;
     if number > 255 {
-        return Character::Mistake(ESCAPE);
+        return Character::Mistake(Fault::Escape);
     }
     Character::Is(number as u8, 4)
 }
 
-fn by_number(text: &[u8], at: usize) -> Character
-    ensures { result ≡ as_character (by_number (drop at text.now)) }
+#[tactic(auto, unfolding(crate::specs::Quoted::by_number))]
+fn by_number(rest: &[u8]) -> Character
+    ensures { as_written result ≡ by_number rest.now }
 {
-    if text.len() < 3 {
-        return Character::Mistake(ESCAPE);
+    match rest {
+        [a, b, c, ..] => by_digits(*a, *b, *c),
+        _ => Character::Mistake(Fault::Escape),
     }
-    if at > text.len() - 3 {
-        return Character::Mistake(ESCAPE);
-    }
-    by_digits(text[at], text[at + 1], text[at + 2])
 }
 
 // What stands after an asterisk.
-fn escape(text: &[u8], at: usize) -> Character
-    ensures { result ≡ as_character (escape (drop at text.now)) }
+#[tactic(auto, unfolding(crate::specs::Quoted::escape))]
+fn escape(rest: &[u8]) -> Character
+    ensures { as_written result ≡ escape rest.now }
 {
-    if at >= text.len() {
-        return Character::Mistake(ESCAPE);
-    }
-    let c = text[at];
-    match c {
-        b'N' => Character::Is(10, 2),
-        b'S' => Character::Is(32, 2),
-        b'T' => Character::Is(9, 2),
-        b'B' => Character::Is(8, 2),
-        b'P' => Character::Is(12, 2),
-        b'C' => Character::Is(13, 2),
-        b'*' => Character::Is(42, 2),
-        b'\'' => Character::Is(39, 2),
-        b'"' => Character::Is(34, 2),
-        _ => by_number(text, at),
+    match rest {
+        [] => Character::Mistake(Fault::Escape),
+        [b'N', ..] => Character::Is(10, 2),
+        [b'S', ..] => Character::Is(32, 2),
+        [b'T', ..] => Character::Is(9, 2),
+        [b'B', ..] => Character::Is(8, 2),
+        [b'P', ..] => Character::Is(12, 2),
+        [b'C', ..] => Character::Is(13, 2),
+        [c @ (b'*' | b'\'' | b'"'), ..] => Character::Is(*c, 2),
+        _ => by_number(rest),
     }
 }
 
+#[tactic(auto, unfolding(crate::specs::Quoted::character))]
 pub fn character_at(text: &[u8], at: usize, quote: u8) -> Character
-    ensures { result ≡ as_character (character quote (drop at text.now)) }
+    ensures { as_written result ≡ character quote (drop at text.now) }
 {
-    if at >= text.len() {
+    let Some([c, rest @ ..]) = text.get(at..) else {
         return Character::Ended;
+    };
+    match *c {
+        c if c == quote => Character::Closing,
+        b'*' => escape(rest),
+        b'\n' => Character::Ended,
+        c @ 32..=126 => Character::Is(c, 1),
+        _ => Character::Mistake(Fault::QuotedByte),
     }
-    let c = text[at];
-    if c == quote {
-        return Character::Closing;
-    }
-    if c == b'*' {
-        return escape(text, at + 1);
-    }
-    if c == b'\n' {
-        return Character::Ended;
-    }
-    if c < 32 {
-        return Character::Mistake(BYTE);
-    }
-    if c > 126 {
-        return Character::Mistake(BYTE);
-    }
-    Character::Is(c, 1)
 }
 
-// The value of the character at a place between quotes; 0 where there is none.
-pub fn value_at(text: &[u8], at: usize, quote: u8) -> u8
+// The value of the character at a place between quotes, if one stands there.
+pub fn value_at(text: &[u8], at: usize, quote: u8) -> Option<u8>
     ensures { result ≡ value_of (character quote (drop at text.now)) }
 {
-    let c = character_at(text, at, quote);
-    match c {
-        Character::Is(value, _) => value,
-        Character::Closing => 0,
-        Character::Ended => 0,
-        Character::Mistake(_) => 0,
+    match character_at(text, at, quote) {
+        Character::Is(value, _) => Some(value),
+        _ => None,
     }
 }
 
-// Whether the closing quote comes before a newline and the end.
+// Whether the closing quote comes before a newline and the end. Each character decides how far the loop goes on, so no `for` is plainer.
 fn closes(text: &[u8], at: usize, quote: u8) -> bool
     ensures { result ≡ is_closed (quoted quote 0 0 (drop at text.now)) }
 {
     let mut i = at;
     loop {
-        let c = character_at(text, i, quote);
-        match c {
+        match character_at(text, i, quote) {
             Character::Is(_, width) => {
                 i += width;
             }
@@ -196,39 +176,42 @@ fn closes(text: &[u8], at: usize, quote: u8) -> bool
 }
 
 // A fault at a place, so many bytes into a constant, which may not be closed.
-fn fault_at(text: &[u8], at: usize, quote: u8, number: u16, offset: usize) -> Quoted
-    ensures { result ≡ as_quoted (widened offset (fault_before number (quoted quote 0 0 (drop at text.now)))) }
+fn fault_at(text: &[u8], at: usize, quote: u8, fault: Fault, offset: usize) -> Flaw
+    ensures { found (Err result) ≡ counted (widened offset (fault_before (number_of fault) (quoted quote 0 0 (drop at text.now)))) }
 {
     if closes(text, at, quote) {
-        return Quoted::Faulty(number, offset);
+        Flaw::Faulty { fault, offset }
+    } else {
+        Flaw::Unclosed
     }
-    Quoted::Unclosed
 }
 
-// A constant of at most `room` characters, from past its opening quote on.
-pub fn quoted_at(text: &[u8], at: usize, quote: u8, room: usize) -> Quoted
-    ensures { result ≡ as_quoted (quoted quote room 0 (drop at text.now)) }
+// A constant of at most `room` characters, from past its opening quote on. As in `closes`, each character decides how far the loop goes on.
+pub fn quoted_at(text: &[u8], at: usize, quote: u8, room: usize) -> Result<Closed, Flaw>
+    ensures { found result ≡ counted (quoted quote room 0 (drop at text.now)) }
 {
-    let mut n: usize = 0;
+    let mut characters: usize = 0;
     let mut i = at;
     loop {
-        let c = character_at(text, i, quote);
-        match c {
+        match character_at(text, i, quote) {
             Character::Is(_, width) => {
-                if n == room {
-                    return fault_at(text, i, quote, LENGTH, i - at);
+                if characters == room {
+                    return Err(fault_at(text, i, quote, Fault::QuotedLength, i - at));
                 }
-                n += 1;
+                characters += 1;
                 i += width;
             }
             Character::Closing => {
-                return Quoted::Closed(n, i - at + 1);
+                return Ok(Closed {
+                    characters,
+                    width: i - at + 1,
+                });
             }
             Character::Ended => {
-                return Quoted::Unclosed;
+                return Err(Flaw::Unclosed);
             }
-            Character::Mistake(number) => {
-                return fault_at(text, i, quote, number, i - at);
+            Character::Mistake(fault) => {
+                return Err(fault_at(text, i, quote, fault, i - at));
             }
         }
     }

@@ -1,5 +1,0 @@
-use Rattle.laws.proofs.Basics.{le-leb, lt-leb}
-use Rattle.text.proofs.is_digit.Tie as tie
-
-pub is_digit_spec : {M : Type 1} → Rattle.text.proofs.is_digit.Statement.statement M
-is_digit_spec = tie.close (tie.spec (λ c. rw (lt-leb 48 _ c.if-c-lt48.true)) (λ c. rw (le-leb 48 _ c.if-c-lt48.false)))
