@@ -7,8 +7,8 @@ use Rattle.items.specs.Answers.{as_operand, as_base, as_item, as_next, as_start}
 use Rattle.items.specs.declared.Item.{Item}
 use Rattle.items.specs.declared.Next.{Next}
 use Rattle.items.specs.declared.Next.TheVariants as M
-use Rattle.items.specs.declared.Start.{Start}
-use Rattle.items.specs.declared.Start.TheVariants as A
+use Rattle.std.specs.Prelude.{Result, Ok, Err}
+use Rattle.items.specs.declared.Unreadable.{Unreadable}
 use Rattle.items.proofs.Sound as G
 use Rattle.items.proofs.Answers.{OneRead, when-one, when_whole, when-unreadable, when-from, when-not-begun}
 use Rattle.items.proofs.Scans.{on_next, body-next, scan-start}
@@ -129,9 +129,9 @@ module _ (text : List ℕ) (from : ℕ) {r : Next} (p : r ≡ as_next (N.next_in
 
 -- ---- where the items begin
 
-module _ (text : List ℕ) {r : Start} (p : r ≡ as_start (N.start_in text)) where
-  pub begins : {place : ℕ} → r ≡ A.From place → scan text ≡ body 0 place (drop place text)
+module _ (text : List ℕ) {r : Result ℕ Unreadable} (p : r ≡ as_start (N.start_in text)) where
+  pub begins : {place : ℕ} → r ≡ Ok place → scan text ≡ body 0 place (drop place text)
   begins q = scan-start text ∙ rw (when-from (N.start_in text) p q)
 
-  pub begins-not : {place : ℕ} → r ≡ A.Unreadable place → scan text ≡ ends (unreadable place)
+  pub begins-not : {u : Unreadable} → r ≡ Err u → scan text ≡ ends (unreadable u.place)
   begins-not q = scan-start text ∙ rw (when-not-begun (N.start_in text) p q)

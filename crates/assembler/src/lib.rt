@@ -19,7 +19,7 @@ ghost use Rattle.assembler.specs.Passes.{operand_of, base_of, item_of, blank, as
 ghost use Rattle.assembler.specs.Passes.{Writable, Writes, letters, Spelling, item_at, Spelled, FitsAll, WritesAll, Zeros, Ready, Gives};
 ghost use Rattle.assembler.specs.Passes.{AssemblesKeys, record_of, table_of, Serves, Loads, told_by};
 
-use items::{Base, Item, Next, Operand, Start};
+use items::{Base, Item, Next, Operand};
 use text::{Character, Refusal};
 
 // A record of the label table.
@@ -112,7 +112,7 @@ fn operand_in_range(x: Operand) -> bool
     ensures { result ≡ operand_in_range (operand_of x) }
 {
     match x {
-        Operand::Number(minus, size) => if minus { size <= 32768 } else { size <= 65535 },
+        Operand::Number { minus, size } => if minus { size <= 32768 } else { size <= 65535 },
         Operand::Address(number) => label_in_range(number),
     }
 }
@@ -146,7 +146,7 @@ fn short(x: Operand) -> bool
     ensures { result ≡ short (operand_of x) }
 {
     match x {
-        Operand::Number(minus, size) => signed(minus, size) < 512,
+        Operand::Number { minus, size } => signed(minus, size) < 512,
         Operand::Address(_) => false,
     }
 }
@@ -269,7 +269,7 @@ fn value(index: &[u16; 32768], x: Operand) -> Found
     ensures { result ≡ value_of (listed index.now) (operand_of x) }
 {
     match x {
-        Operand::Number(minus, size) => Found::At(signed(minus, size)),
+        Operand::Number { minus, size } => Found::At(signed(minus, size)),
         Operand::Address(number) => find(index, number),
     }
 }
@@ -547,10 +547,9 @@ fn assemble_keys(text: &[u8], memory: &mut [u16], labels: &mut [u32]) -> Assembl
     if memory.len() > 32768 {
         return refuse(text, memory, labels, 24, 0);
     }
-    let first = items::start_in(text);
-    match first {
-        Start::Unreadable(place) => refuse(text, memory, labels, 20, place),
-        Start::From(from) => assemble_from(text, from, memory, labels),
+    match items::start_in(text) {
+        Err(found) => refuse(text, memory, labels, 20, found.place),
+        Ok(from) => assemble_from(text, from, memory, labels),
     }
 }
 

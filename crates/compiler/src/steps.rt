@@ -1,7 +1,7 @@
 // The single steps of the walk: what was done so far and where it stands, nodes of the tree, items written, names and constants.
 ghost use Rattle.std.specs.Prelude.{◌≡◌, Bool, true, false, cond, eqb, List, [], ◌∷◌, ◌++◌, ℕ, ◌+◌, ◌*◌, ◌-◌, ◌≤◌, ◌<◌, ◌^◌, length, get_or};
 ghost use Rattle.items.specs.Item as I;
-ghost use Rattle.writing.specs.Text.{base_of};
+ghost use Rattle.items.specs.Answers.{base_of};
 ghost use Rattle.code.specs.Generate as G;
 ghost use Rattle.language.specs.Kinds as K;
 ghost use Rattle.compiler.specs.Walked.{NodeAt, Emits, Reached, Faulted, Means, Fresh, LeavesTo, inside, raised, marked, placed, in_valof};

@@ -4,7 +4,7 @@
 // holds there (`Here`) and what was done so far (`State`), and gives what is done then.
 ghost use Rattle.std.specs.Prelude.{◌≡◌, Bool, true, false, cond, eqb, List, [], ◌∷◌, ◌++◌, ℕ, ◌+◌, ◌*◌, ◌-◌, ◌≤◌, ◌<◌, ◌^◌, length, get_or};
 ghost use Rattle.items.specs.Item as I;
-ghost use Rattle.writing.specs.Text.{base_of};
+ghost use Rattle.items.specs.Answers.{base_of};
 ghost use Rattle.code.specs.Generate as G;
 ghost use Rattle.compiler.specs.Walked.{NodeAt, Emits, Reached, Faulted, Means, Fresh, LeavesTo, inside, raised, marked, placed, in_valof};
 ghost use Rattle.compiler.specs.Walked.{in_loop};

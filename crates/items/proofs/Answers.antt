@@ -1,5 +1,6 @@
 -- From the code's answers back to the values that they stand for: for callers of `start_in` and `next_in`.
 use Rattle.laws.proofs.Basics.{ℕ, ◌≡◌, refl, List, length}
+use Rattle.std.specs.Prelude.{Result, Ok, Err}
 use Rattle.laws.proofs.Cases.{contradiction}
 use Rattle.items.specs.Item as I
 use Rattle.items.specs.Scan.{whole, unreadable}
@@ -9,8 +10,7 @@ use Rattle.items.specs.declared.Item.{Item}
 use Rattle.items.specs.declared.Item.TheVariants as C
 use Rattle.items.specs.declared.Next.{Next}
 use Rattle.items.specs.declared.Next.TheVariants as M
-use Rattle.items.specs.declared.Start.{Start}
-use Rattle.items.specs.declared.Start.TheVariants as A
+use Rattle.items.specs.declared.Unreadable.{Unreadable}
 
 -- ---- what stands next
 
@@ -38,12 +38,12 @@ when-unreadable (N.one a x b) e k = contradiction cc
 when-unreadable (N.over whole) e k = contradiction cc
 when-unreadable (N.over (unreadable a)) e k = cc
 
-pub when-from : (s : N.Start) {r : Start} → r ≡ as_start s → {p : ℕ} → r ≡ A.From p → s ≡ N.from p
+pub when-from : (s : N.Start) {r : Result ℕ Unreadable} → r ≡ as_start s → {p : ℕ} → r ≡ Ok p → s ≡ N.from p
 unfolding as_start
 when-from (N.from a) e k = cc
 when-from (N.not a) e k = contradiction cc
 
-pub when-not-begun : (s : N.Start) {r : Start} → r ≡ as_start s → {p : ℕ} → r ≡ A.Unreadable p → s ≡ N.not p
+pub when-not-begun : (s : N.Start) {r : Result ℕ Unreadable} → r ≡ as_start s → {u : Unreadable} → r ≡ Err u → s ≡ N.not u.place
 unfolding as_start
 when-not-begun (N.from a) e k = contradiction cc
 when-not-begun (N.not a) e k = cc

@@ -1,11 +1,8 @@
-pub mod Places
 pub mod Gaps
 pub mod Decimals
-pub mod Operands
-pub mod Items
-pub mod Elements
 pub mod Sound
 pub mod Scans
 pub mod Examples
 pub mod Rendered
 pub mod Answers
+pub mod Elements

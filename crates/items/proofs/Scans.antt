@@ -1,14 +1,14 @@
 -- A scan of a whole text is the items that `next_in` gives one after another, from where `start_in` says that they begin.
 use Rattle.laws.proofs.Basics.{ℕ, zero, suc, ◌+◌, ◌-◌, ◌≤◌, ◌≡◌, refl, ap, ◌∙◌, List, [], ◌∷◌, Bool, true, false, not, cond, length, drop, drop-drop}
 use Rattle.laws.proofs.Basics.{eqb, add-zero, arith, add-shift}
-use Rattle.laws.proofs.Cases.{by_cases, by_cond}
+use Rattle.laws.proofs.Cases.{by_cases}
 use Rattle.items.specs.Item.{Item}
 use Rattle.items.specs.Reader.{Got, got, nothing, head}
 use Rattle.items.specs.Read.{item, function_of}
 use Rattle.items.specs.Scan.{gaps, unreadable, Scan, ends, goes_on, mark, on_last, on_item, body, on_first, scan}
 use Rattle.items.specs.Next.{Next, one, over, one_of, last_of, element_at, next_in, Start, from, not as unbegun, start_of, start_in}
 use Rattle.items.specs.Parts.{in_gap, in_comment}
-use Rattle.items.proofs.Gaps.{gap-byte}
+use Rattle.items.proofs.Gaps.{gap-byte, gaps-within}
 use Rattle.items.proofs.Sound.{Given, Stands, item-given}
 
 abbrev pub on_next : List ℕ → Next → Scan
@@ -20,12 +20,6 @@ on_start text (from place) = body 0 place (drop place text)
 on_start text (unbegun place) = ends (unreadable place)
 
 -- ---- gaps and bytes passed over
-
-pub gaps-within : (comment : Bool) (bytes : List ℕ) → gaps comment bytes ≤ length bytes
-unfolding gaps
-gaps-within comment [] = omega arith
-gaps-within comment (c ∷ r) = rw (gap-byte comment c r)
-    (by_cond (λ n. n ≤ suc (length r)) (in_gap comment c) (omega (arith, gaps-within (in_comment comment c) r)) (omega arith))
 
 -- no gap follows a gap
 pub gaps-passed : (comment : Bool) (bytes : List ℕ) → gaps false (drop (gaps comment bytes) bytes) ≡ 0

@@ -1,5 +1,5 @@
 -- What the code's enums say of the definitions' values. The code's string item has only the number of its characters.
-use Rattle.std.specs.Prelude.{length}
+use Rattle.std.specs.Prelude.{ℕ, length, Result, Ok, Err}
 use Rattle.items.specs.Item as I
 use Rattle.items.specs.Scan as S
 use Rattle.items.specs.Next as N
@@ -11,8 +11,7 @@ use Rattle.items.specs.declared.Item.{Item}
 use Rattle.items.specs.declared.Item.TheVariants as C
 use Rattle.items.specs.declared.Next.{Next}
 use Rattle.items.specs.declared.Next.TheVariants as M
-use Rattle.items.specs.declared.Start.{Start}
-use Rattle.items.specs.declared.Start.TheVariants as A
+use Rattle.items.specs.declared.Unreadable.{Unreadable}
 
 unfoldable pub as_operand : I.Operand → Operand
 as_operand (I.number minus size) = O.Number minus size
@@ -22,6 +21,16 @@ unfoldable pub as_base : I.Base → Base
 as_base I.none = B.Plain
 as_base I.P = B.P
 as_base I.G = B.G
+
+-- the same the other way
+abbrev pub operand_of : Operand → I.Operand
+operand_of (O.Number minus size) = I.number minus size
+operand_of (O.Address n) = I.address n
+
+abbrev pub base_of : Base → I.Base
+base_of B.Plain = I.none
+base_of B.P = I.P
+base_of B.G = I.G
 
 unfoldable pub as_item : I.Item → Item
 as_item (I.label n) = C.Label n
@@ -35,6 +44,6 @@ as_next (N.one place i past) = M.One place (as_item i) past
 as_next (N.over S.whole) = M.Whole
 as_next (N.over (S.unreadable place)) = M.Unreadable place
 
-unfoldable pub as_start : N.Start → Start
-as_start (N.from place) = A.From place
-as_start (N.not place) = A.Unreadable place
+unfoldable pub as_start : N.Start → Result ℕ Unreadable
+as_start (N.from place) = Ok place
+as_start (N.not place) = Err (record { place = place })

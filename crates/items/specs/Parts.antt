@@ -1,47 +1,32 @@
--- What the code's readers of parts answer at a place: the part and the place past it.
-use Rattle.std.specs.Prelude.{ℕ, ◌+◌, Bool, true, false, not, cond, eqb}
-use Rattle.items.specs.Item as I
+-- What the code's readers of parts answer: the part and the number of bytes that write it.
+use Rattle.std.specs.Prelude.{ℕ, ◌≡◌, Bool, true, false, not, cond, List, length, eqb, ltb, Option, Some, None, MatchOption}
+use Rattle.items.specs.Item.{string}
 use Rattle.items.specs.Reader as R
-use Rattle.items.specs.Reader.{◌>>=◌, return, byte, decimal}
-use Rattle.items.specs.Read.{ended}
-use Rattle.items.specs.Answers.{as_operand, as_base, as_item}
-use Rattle.items.specs.declared.Base.TheVariants as B
-use Rattle.items.specs.declared.Based.{Based}
-use Rattle.items.specs.declared.ReadDecimal.{ReadDecimal}
-use Rattle.items.specs.declared.ReadDecimal.TheVariants as D
-use Rattle.items.specs.declared.ReadOperand.{ReadOperand}
-use Rattle.items.specs.declared.ReadOperand.TheVariants as O
-use Rattle.items.specs.declared.ReadItem.{ReadItem}
-use Rattle.items.specs.declared.ReadItem.TheVariants as C
+use Rattle.items.specs.Read.{quoted_string, function_of}
+use Rattle.items.specs.declared.Part.{Part}
 
-unfoldable pub is_got : R.Got Bool → Bool
-is_got (R.got _ _) = true
-is_got R.nothing = false
+-- the code's answer as a definition has it, where the code holds all of the value
+abbrev pub as_got : {A B : Type 0} → (A → B) → Option (Part A) → R.Got B
+as_got f (Some p) = R.got (f p.value) p.width
+as_got f None = R.nothing
 
-unfoldable pub as_decimal : ℕ → R.Got ℕ → ReadDecimal
-as_decimal at (R.got v n) = D.Got v (at + n)
-as_decimal at R.nothing = D.Nothing
+-- a definition's value as the code answers it
+abbrev pub as_part : {A B : Type 0} → (A → B) → R.Got A → Option (Part B)
+as_part f (R.got v n) = Some (record { value = f v; width = n })
+as_part f R.nothing = None
 
-unfoldable pub as_operand_at : ℕ → R.Got I.Operand → ReadOperand
-as_operand_at at (R.got x n) = O.Got (as_operand x) (at + n)
-as_operand_at at R.nothing = O.Nothing
+-- a string's characters, or that none are closed here: the code holds their number
+pub record CharactersRead (bytes : List ℕ) (p : Part ℕ) : Type 0 where
+  pub characters : List ℕ
+  pub reading : quoted_string bytes ≡ R.got (string characters) p.width
+  pub count : p.value ≡ length characters
 
--- a base is always read
-unfoldable pub as_based : ℕ → R.Got I.Base → Based
-as_based at (R.got b n) = record { base = as_base b; past = at + n }
-as_based at R.nothing = record { base = B.Plain; past = at }
+abbrev pub Characters : List ℕ → Option (Part ℕ) → Type 0
+Characters bytes r = MatchOption r (quoted_string bytes ≡ R.nothing) (λ p. CharactersRead bytes p)
 
-unfoldable pub as_item_at : ℕ → R.Got I.Item → ReadItem
-as_item_at at (R.got i n) = C.Got (as_item i) (at + n)
-as_item_at at R.nothing = C.Nothing
-
--- what follows Gn
-unfoldable pub global_label : ℕ → R.Reader I.Item
-global_label n = do
-  _ ← byte 76
-  m ← decimal
-  _ ← ended
-  return (I.global n m)
+-- a function's number, if the byte is a function's letter
+abbrev pub function_in : ℕ → Option ℕ
+function_in c = cond (ltb (function_of c) 8) (Some (function_of c)) None
 
 -- a gap by its bytes: whether the byte c belongs to it, in a comment or not, and whether what follows c is in a comment
 unfoldable pub in_gap : Bool → ℕ → Bool

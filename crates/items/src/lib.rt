@@ -1,38 +1,37 @@
 // MINICODE text as items: what stands at a place of a text, by the rules of document 01's "Assembly text".
 //
 // `start_in` finds where the items begin and `next_in` reads one of them; both look at any place of any bytes. Below
-// them each function reads one part, and answers with the part and the place past it. A place past the end has the
-// byte 256, as in the definitions.
+// them each function reads one part at the head of some bytes, and answers with the part and the number of bytes that
+// write it.
 #![tactic(auto)]
 
-ghost use Rattle.std.specs.Prelude.{◌+◌, ◌-◌, ◌*◌, ◌≤◌, ◌≡◌, false, cond, eqb, drop};
-ghost use Rattle.items.specs.Item.{capped};
-ghost use Rattle.items.specs.Reader.{head, is_digit, decimal};
-ghost use Rattle.items.specs.Read.{ended, negative, quotation, labelled, positive, operand, base, label_item, instruction_item, constant_item};
-ghost use Rattle.items.specs.Read.{string_item, global_item, function_of, item};
+ghost use Rattle.std.specs.Prelude.{◌≡◌, ◌≤◌, true, false, cond, IfSome, length};
+ghost use Rattle.items.specs.Reader.{got, nothing, optional, decimal};
+ghost use Rattle.items.specs.Read.{ended, quoted_character, operand, base, label_item, instruction_item, constant_item};
+ghost use Rattle.items.specs.Read.{string_item, global_item, item};
 ghost use Rattle.items.specs.Scan.{gaps, mark};
-ghost use Rattle.items.specs.Next.{element_at, next_in, start_in};
-ghost use Rattle.items.specs.Answers.{as_next, as_start};
-ghost use Rattle.items.specs.Parts.{is_got, as_decimal, as_operand_at, as_based, as_item_at, global_label, in_gap, in_comment};
+ghost use Rattle.items.specs.Next.{next_in, start_in};
+ghost use Rattle.items.specs.Answers.{operand_of, base_of, as_item, as_next, as_start};
+ghost use Rattle.items.specs.Parts.{as_got, as_part, function_in, Characters, in_gap, in_comment};
 
-use text::Quoted;
+use text::Closed;
 
 // A number as it is written, with a minus or not; or a label.
-#[derive(Clone, Copy, Drop)]
+#[derive(Clone, Copy)]
 pub enum Operand {
-    Number(bool, u32),
+    Number { minus: bool, size: u32 },
     Address(u32),
 }
 
 // What is added to an operand.
-#[derive(Clone, Copy, Drop)]
+#[derive(Clone, Copy)]
 pub enum Base {
     Plain,
     P,
     G,
 }
 
-#[derive(Clone, Copy, Drop)]
+#[derive(Clone, Copy)]
 pub enum Item {
     // n:
     Label(u32),
@@ -46,446 +45,375 @@ pub enum Item {
     Global(u32, u32),
 }
 
-// What stands next: an item with its place and the place past it, or how the text ends.
-#[derive(Drop)]
+// What stands next: an item with its place and the place past it, or how the text ends. It has three cases, so it is no `Option` or `Result`.
+#[derive(Clone, Copy)]
 pub enum Next {
     One(usize, Item, usize),
     Whole,
     Unreadable(usize),
 }
 
-// Where the items begin.
-#[derive(Drop)]
-pub enum Start {
-    From(usize),
-    Unreadable(usize),
+// The place where something else is wanted.
+#[derive(Clone, Copy)]
+pub struct Unreadable {
+    pub place: usize,
 }
 
-// What a reader of a part answers: the part and the place past it, or that it does not stand there.
-#[derive(Drop)]
-enum ReadDecimal {
-    Got(u32, usize),
-    Nothing,
-}
-
-#[derive(Drop)]
-enum ReadOperand {
-    Got(Operand, usize),
-    Nothing,
-}
-
-#[derive(Drop)]
-enum ReadItem {
-    Got(Item, usize),
-    Nothing,
-}
-
-#[derive(Drop)]
-struct Based {
-    base: Base,
-    past: usize,
-}
-
-fn wide(c: u8) -> u16
-    ensures { result ≡ c }
-{
-    c as u16
-}
-
-fn byte_at(text: &[u8], at: usize) -> u16
-    ensures { result ≡ head (drop at text.now) }
-{
-    if at < text.len() {
-        return wide(text[at]);
-    }
-    256
+// A part that was read, and the number of bytes that write it.
+#[derive(Clone, Copy)]
+struct Part<T> {
+    value: T,
+    width: usize,
 }
 
 // Whether the byte c of a gap, in a comment or not, belongs to it.
+#[tactic(auto, unfolding(crate::specs::Parts::in_gap))]
 fn in_gap(comment: bool, c: u8) -> bool
     ensures { result ≡ in_gap comment c }
 {
-    if comment {
-        return true;
-    }
-    match c {
-        b' ' => true,
-        b'\n' => true,
-        b'/' => true,
-        _ => false,
-    }
+    comment || matches!(c, b' ' | b'\n' | b'/')
 }
 
 // Whether what follows the byte c of a gap is in a comment.
+#[tactic(auto, unfolding(crate::specs::Parts::in_comment))]
 fn in_comment(comment: bool, c: u8) -> bool
     ensures { result ≡ in_comment comment c }
 {
-    if comment {
-        return c != b'\n';
-    }
-    c == b'/'
+    if comment { c != b'\n' } else { c == b'/' }
 }
 
-// Past the blanks, newlines and comments at a place.
-fn past_gap(text: &[u8], at: usize) -> usize
-    ensures { result ≡ at + gaps false (drop at text.now) }
+// The blanks, newlines and comments at the head.
+#[tactic(auto, using(crate::proofs::Gaps::gap_steps))]
+fn gap_width(bytes: &[u8]) -> usize
+    ensures counted { result ≡ gaps false bytes.now }
+    ensures within { result ≤ length bytes.now }
 {
     let mut comment = false;
-    let mut i = at;
-    while i < text.len() {
-        let c = text[i];
-        if !in_gap(comment, c) {
+    for (i, c) in bytes.iter().enumerate() {
+        if !in_gap(comment, *c) {
             return i;
         }
-        comment = in_comment(comment, c);
-        i += 1;
+        comment = in_comment(comment, *c);
     }
-    i
+    bytes.len()
 }
 
-// Whether an item may end at a place.
-fn ended(text: &[u8], at: usize) -> bool
-    ensures { result ≡ is_got (ended (drop at text.now)) }
+// Whether an item may end here.
+#[tactic(auto, unfolding(crate::specs::Reader::head, crate::specs::Read::ended))]
+fn ended(bytes: &[u8]) -> bool
+    ensures { ended bytes.now ≡ cond result (got true 0) nothing }
 {
-    let c = byte_at(text, at);
-    match c {
-        32 => true,
-        10 => true,
-        47 => true,
-        256 => true,
-        _ => false,
+    matches!(bytes, [] | [b' ' | b'\n' | b'/', ..])
+}
+
+// Whether $ or Z, the byte c, stands here as an item.
+#[tactic(auto, unfolding(crate::specs::Reader::head, crate::specs::Reader::byte, crate::specs::Scan::mark))]
+fn marked(bytes: &[u8], c: u8) -> bool
+    ensures { mark c bytes.now ≡ cond result (got true 1) nothing }
+{
+    match bytes {
+        [first, rest @ ..] => *first == c && ended(rest),
+        [] => false,
     }
 }
 
-// Whether the byte c stands at a place.
-fn has(text: &[u8], at: usize, c: u8) -> bool
-    ensures { result ≡ eqb (head (drop at text.now)) c }
+// A number; 65,536 stands for all that are larger.
+#[tactic(auto, using(crate::proofs::Decimals::digit_steps), unfolding(crate::specs::Reader::decimal, crate::specs::Reader::head))]
+fn read_decimal(bytes: &[u8]) -> Option<Part<u32>>
+    ensures reads { as_got (λ n. n) result ≡ decimal bytes.now }
+    ensures within { IfSome result (λ p. p.width ≤ length bytes.now) }
 {
-    byte_at(text, at) == wide(c)
-}
-
-// Whether $ or Z, the byte c, stands at a place as an item.
-fn marked(text: &[u8], at: usize, c: u8) -> bool
-    ensures { result ≡ is_got (mark c (drop at text.now)) }
-{
-    if has(text, at, c) {
-        return ended(text, at + 1);
-    }
-    false
-}
-
-fn is_digit(c: u16) -> bool
-    ensures { result ≡ is_digit c }
-{
-    if c < 48 {
-        return false;
-    }
-    c <= 57
-}
-
-// A number of one digit more; 65,536 stands for all that are larger.
-fn and_digit(n: u32, c: u16) -> u32
-    requires { (n ≤ 65536) × (48 ≤ c) × (c ≤ 57) }
-    ensures { result ≡ capped (n * 10 + (c - 48)) }
-{
-    let more = n * 10 + (c - 48) as u32;
-    if more < 65536 {
-        return more;
-    }
-    65536
-}
-
-fn decimal_at(text: &[u8], at: usize) -> ReadDecimal
-    ensures { result ≡ as_decimal at (decimal (drop at text.now)) }
-{
-    let first = byte_at(text, at);
-    if !is_digit(first) {
-        return ReadDecimal::Nothing;
-    }
-    let mut n: u32 = 0;
-    let mut i = at;
-    while i < text.len() {
-        let c = byte_at(text, i);
-        if !is_digit(c) {
-            return ReadDecimal::Got(n, i);
+    let [b'0'..=b'9', ..] = bytes else {
+        return None;
+    };
+    let mut value: u32 = 0;
+    for (width, c) in bytes.iter().enumerate() {
+        if !c.is_ascii_digit() {
+            return Some(Part { value, width });
         }
-        n = and_digit(n, c);
-        i += 1;
+        value = (value * 10 + u32::from(*c - b'0')).min(65536);
     }
-    ReadDecimal::Got(n, i)
+    Some(Part {
+        value,
+        width: bytes.len(),
+    })
 }
 
-// - and a number.
-fn negative(text: &[u8], at: usize) -> ReadOperand
-    requires { head (drop at text.now) ≡ 45 }
-    ensures { result ≡ as_operand_at at (negative (drop at text.now)) }
+// A character, from past its first quote on.
+fn read_quoted(bytes: &[u8]) -> Option<Part<Operand>>
+    ensures reads { as_got operand_of result ≡ quoted_character bytes.now }
+    ensures within { IfSome result (λ p. p.width ≤ length bytes.now) }
 {
-    let n = decimal_at(text, at + 1);
-    match n {
-        ReadDecimal::Got(size, past) => ReadOperand::Got(Operand::Number(true, size), past),
-        ReadDecimal::Nothing => ReadOperand::Nothing,
-    }
+    let Ok(Closed { width, .. }) = text::quoted_at(bytes, 0, b'\'', 1) else {
+        return None;
+    };
+    let value = text::value_at(bytes, 0, b'\'')?;
+    Some(Part {
+        value: Operand::Number {
+            minus: false,
+            size: u32::from(value),
+        },
+        width,
+    })
 }
 
-// L and a label.
-fn labelled(text: &[u8], at: usize) -> ReadOperand
-    requires { head (drop at text.now) ≡ 76 }
-    ensures { result ≡ as_operand_at at (labelled (drop at text.now)) }
+#[tactic(auto, unfolding(crate::specs::Read::operand, crate::specs::Read::negative, crate::specs::Read::labelled, crate::specs::Read::positive, crate::specs::Read::quotation, crate::specs::Reader::byte, crate::specs::Reader::head))]
+fn read_operand(bytes: &[u8]) -> Option<Part<Operand>>
+    ensures reads { as_got operand_of result ≡ operand bytes.now }
+    ensures within { IfSome result (λ p. p.width ≤ length bytes.now) }
 {
-    let n = decimal_at(text, at + 1);
-    match n {
-        ReadDecimal::Got(label, past) => ReadOperand::Got(Operand::Address(label), past),
-        ReadDecimal::Nothing => ReadOperand::Nothing,
-    }
-}
-
-fn positive(text: &[u8], at: usize) -> ReadOperand
-    ensures { result ≡ as_operand_at at (positive (drop at text.now)) }
-{
-    let n = decimal_at(text, at);
-    match n {
-        ReadDecimal::Got(size, past) => ReadOperand::Got(Operand::Number(false, size), past),
-        ReadDecimal::Nothing => ReadOperand::Nothing,
-    }
-}
-
-// A character between single quotes.
-fn quotation(text: &[u8], at: usize) -> ReadOperand
-    requires { head (drop at text.now) ≡ 39 }
-    ensures { result ≡ as_operand_at at (quotation (drop at text.now)) }
-{
-    let constant = text::quoted_at(text, at + 1, b'\'', 1);
-    match constant {
-        Quoted::Closed(n, width) => {
-            if n == 0 {
-                return ReadOperand::Nothing;
-            }
-            let value = text::value_at(text, at + 1, b'\'');
-            ReadOperand::Got(Operand::Number(false, value as u32), at + 1 + width)
+    match bytes {
+        [b'-', rest @ ..] => {
+            let number = read_decimal(rest)?;
+            Some(Part {
+                value: Operand::Number {
+                    minus: true,
+                    size: number.value,
+                },
+                width: 1 + number.width,
+            })
         }
-        Quoted::Unclosed => ReadOperand::Nothing,
-        Quoted::Faulty(_, _) => ReadOperand::Nothing,
+        [b'\'', rest @ ..] => {
+            let character = read_quoted(rest)?;
+            Some(Part {
+                width: 1 + character.width,
+                ..character
+            })
+        }
+        [b'L', rest @ ..] => {
+            let label = read_decimal(rest)?;
+            Some(Part {
+                value: Operand::Address(label.value),
+                width: 1 + label.width,
+            })
+        }
+        _ => {
+            let number = read_decimal(bytes)?;
+            Some(Part {
+                value: Operand::Number {
+                    minus: false,
+                    size: number.value,
+                },
+                width: number.width,
+            })
+        }
     }
 }
 
-fn operand_at(text: &[u8], at: usize) -> ReadOperand
-    ensures { result ≡ as_operand_at at (operand (drop at text.now)) }
+// P or G, if any.
+#[tactic(auto, unfolding(crate::specs::Reader::head, crate::specs::Read::base))]
+fn read_base(bytes: &[u8]) -> Part<Base>
+    ensures reads { got (base_of result.value) result.width ≡ base bytes.now }
+    ensures within { result.width ≤ length bytes.now }
 {
-    let c = byte_at(text, at);
-    match c {
-        45 => negative(text, at),
-        39 => quotation(text, at),
-        76 => labelled(text, at),
-        _ => positive(text, at),
+    match bytes {
+        [b'P', ..] => Part {
+            value: Base::P,
+            width: 1,
+        },
+        [b'G', ..] => Part {
+            value: Base::G,
+            width: 1,
+        },
+        _ => Part {
+            value: Base::Plain,
+            width: 0,
+        },
     }
 }
 
-// Past the byte c if it stands at a place.
-fn past_byte(text: &[u8], at: usize, c: u8) -> usize
-    ensures { result ≡ at + cond (eqb (head (drop at text.now)) c) 1 0 }
+// I, if it stands here.
+#[tactic(auto, unfolding(crate::specs::Reader::head, crate::specs::Reader::optional))]
+fn read_indirect(bytes: &[u8]) -> Part<bool>
+    ensures reads { got result.value result.width ≡ optional 73 bytes.now }
+    ensures within { result.width ≤ length bytes.now }
 {
-    if has(text, at, c) {
-        return at + 1;
-    }
-    at
-}
-
-fn base_at(text: &[u8], at: usize) -> Based
-    ensures { result ≡ as_based at (base (drop at text.now)) }
-{
-    let c = byte_at(text, at);
-    match c {
-        80 => Based {
-            base: Base::P,
-            past: at + 1,
-        },
-        71 => Based {
-            base: Base::G,
-            past: at + 1,
-        },
-        _ => Based {
-            base: Base::Plain,
-            past: at,
-        },
+    let value = matches!(bytes, [b'I', ..]);
+    Part {
+        value,
+        width: usize::from(value),
     }
 }
 
 // What follows a function's letter.
-fn instruction_at(text: &[u8], at: usize, function: u16) -> ReadItem
-    ensures { result ≡ as_item_at at (instruction_item function (drop at text.now)) }
+#[tactic(auto, unfolding(crate::specs::Read::instruction_item, crate::specs::Answers::as_item))]
+fn read_instruction(bytes: &[u8], function: u16) -> Option<Part<Item>>
+    ensures reads { result ≡ as_part as_item (instruction_item function bytes.now) }
+    ensures within { IfSome result (λ p. p.width ≤ length bytes.now) }
 {
-    let indirect = has(text, at, b'I');
-    let based = base_at(text, past_byte(text, at, b'I'));
-    let base = based.base;
-    let x = operand_at(text, based.past);
-    match x {
-        ReadOperand::Got(operand, past) => {
-            if ended(text, past) {
-                return ReadItem::Got(Item::Instruction(function, indirect, base, operand), past);
-            }
-            ReadItem::Nothing
-        }
-        ReadOperand::Nothing => ReadItem::Nothing,
+    let indirect = read_indirect(bytes);
+    let rest = &bytes[indirect.width..];
+    let base = read_base(rest);
+    let rest = &rest[base.width..];
+    let operand = read_operand(rest)?;
+    if !ended(&rest[operand.width..]) {
+        return None;
     }
+    Some(Part {
+        value: Item::Instruction(function, indirect.value, base.value, operand.value),
+        width: indirect.width + base.width + operand.width,
+    })
 }
 
 // What follows D.
-fn constant_at(text: &[u8], at: usize) -> ReadItem
-    ensures { result ≡ as_item_at at (constant_item (drop at text.now)) }
+#[tactic(auto, unfolding(crate::specs::Read::constant_item, crate::specs::Answers::as_item))]
+fn read_constant(bytes: &[u8]) -> Option<Part<Item>>
+    ensures reads { result ≡ as_part as_item (constant_item bytes.now) }
+    ensures within { IfSome result (λ p. p.width ≤ length bytes.now) }
 {
-    let x = operand_at(text, at);
-    match x {
-        ReadOperand::Got(operand, past) => {
-            if ended(text, past) {
-                return ReadItem::Got(Item::Constant(operand), past);
-            }
-            ReadItem::Nothing
-        }
-        ReadOperand::Nothing => ReadItem::Nothing,
+    let operand = read_operand(bytes)?;
+    if !ended(&bytes[operand.width..]) {
+        return None;
     }
+    Some(Part {
+        value: Item::Constant(operand.value),
+        width: operand.width,
+    })
 }
 
-fn label_at(text: &[u8], at: usize) -> ReadItem
-    ensures { result ≡ as_item_at at (label_item (drop at text.now)) }
+#[tactic(auto, unfolding(crate::specs::Read::label_item, crate::specs::Reader::byte, crate::specs::Reader::head, crate::specs::Answers::as_item))]
+fn read_label(bytes: &[u8]) -> Option<Part<Item>>
+    ensures reads { result ≡ as_part as_item (label_item bytes.now) }
+    ensures within { IfSome result (λ p. p.width ≤ length bytes.now) }
 {
-    let n = decimal_at(text, at);
-    match n {
-        ReadDecimal::Got(label, past) => {
-            if has(text, past, b':') {
-                return ReadItem::Got(Item::Label(label), past + 1);
-            }
-            ReadItem::Nothing
-        }
-        ReadDecimal::Nothing => ReadItem::Nothing,
-    }
+    let label = read_decimal(bytes)?;
+    let [b':', ..] = &bytes[label.width..] else {
+        return None;
+    };
+    Some(Part {
+        value: Item::Label(label.value),
+        width: label.width + 1,
+    })
+}
+
+// A string's characters, from past its first quote on, by their number.
+fn read_characters(bytes: &[u8]) -> Option<Part<usize>>
+    ensures reads { Characters bytes.now result }
+    ensures within { IfSome result (λ p. p.width ≤ length bytes.now) }
+{
+    let Ok(Closed { characters, width }) = text::quoted_at(bytes, 0, b'"', 255) else {
+        return None;
+    };
+    Some(Part {
+        value: characters,
+        width,
+    })
 }
 
 // What follows C.
-fn string_at(text: &[u8], at: usize) -> ReadItem
-    ensures { result ≡ as_item_at at (string_item (drop at text.now)) }
+#[tactic(auto, unfolding(crate::specs::Read::string_item, crate::specs::Reader::byte, crate::specs::Reader::head, crate::specs::Answers::as_item))]
+fn read_string(bytes: &[u8]) -> Option<Part<Item>>
+    ensures reads { result ≡ as_part as_item (string_item bytes.now) }
+    ensures within { IfSome result (λ p. p.width ≤ length bytes.now) }
 {
-    if !has(text, at, b'"') {
-        return ReadItem::Nothing;
+    let [b'"', rest @ ..] = bytes else {
+        return None;
+    };
+    let string = read_characters(rest)?;
+    if !ended(&rest[string.width..]) {
+        return None;
     }
-    let s = text::quoted_at(text, at + 1, b'"', 255);
-    match s {
-        Quoted::Closed(n, width) => {
-            let past = at + 1 + width;
-            if ended(text, past) {
-                return ReadItem::Got(Item::String(n), past);
-            }
-            ReadItem::Nothing
-        }
-        Quoted::Unclosed => ReadItem::Nothing,
-        Quoted::Faulty(_, _) => ReadItem::Nothing,
-    }
-}
-
-// The label of global n, where L stands.
-fn labelled_global(text: &[u8], at: usize, n: u32) -> ReadItem
-    ensures { result ≡ as_item_at at (global_label n (drop at text.now)) }
-{
-    if !has(text, at, b'L') {
-        return ReadItem::Nothing;
-    }
-    let m = decimal_at(text, at + 1);
-    match m {
-        ReadDecimal::Got(label, past) => {
-            if ended(text, past) {
-                return ReadItem::Got(Item::Global(n, label), past);
-            }
-            ReadItem::Nothing
-        }
-        ReadDecimal::Nothing => ReadItem::Nothing,
-    }
+    Some(Part {
+        value: Item::String(string.value),
+        width: 1 + string.width,
+    })
 }
 
 // What follows G.
-fn global_at(text: &[u8], at: usize) -> ReadItem
-    ensures { result ≡ as_item_at at (global_item (drop at text.now)) }
+#[tactic(auto, unfolding(crate::specs::Read::global_item, crate::specs::Reader::byte, crate::specs::Reader::head, crate::specs::Answers::as_item))]
+fn read_global(bytes: &[u8]) -> Option<Part<Item>>
+    ensures reads { result ≡ as_part as_item (global_item bytes.now) }
+    ensures within { IfSome result (λ p. p.width ≤ length bytes.now) }
 {
-    let n = decimal_at(text, at);
-    match n {
-        ReadDecimal::Got(global, past) => labelled_global(text, past, global),
-        ReadDecimal::Nothing => ReadItem::Nothing,
+    let global = read_decimal(bytes)?;
+    let [b'L', rest @ ..] = &bytes[global.width..] else {
+        return None;
+    };
+    let label = read_decimal(rest)?;
+    if !ended(&rest[label.width..]) {
+        return None;
     }
+    Some(Part {
+        value: Item::Global(global.value, label.value),
+        width: global.width + 1 + label.width,
+    })
 }
 
-// The number of a function's letter; 8 for any other byte.
-fn function_of(c: u16) -> u16
-    ensures { result ≡ function_of c }
+// The number of a function's letter.
+#[tactic(auto, unfolding(crate::specs::Read::function_of))]
+fn function_of(c: u8) -> Option<u16>
+    ensures { result ≡ function_in c }
 {
     match c {
-        76 => 0,
-        83 => 1,
-        65 => 2,
-        74 => 3,
-        84 => 4,
-        70 => 5,
-        75 => 6,
-        88 => 7,
-        _ => 8,
+        b'L' => Some(0),
+        b'S' => Some(1),
+        b'A' => Some(2),
+        b'J' => Some(3),
+        b'T' => Some(4),
+        b'F' => Some(5),
+        b'K' => Some(6),
+        b'X' => Some(7),
+        _ => None,
     }
 }
 
-fn item_at(text: &[u8], at: usize) -> ReadItem
-    ensures { result ≡ as_item_at at (item (drop at text.now)) }
+#[tactic(auto, unfolding(crate::specs::Read::item, crate::specs::Read::function_of, crate::specs::Reader::head))]
+fn read_item(bytes: &[u8]) -> Option<Part<Item>>
+    ensures reads { result ≡ as_part as_item (item bytes.now) }
+    ensures within { IfSome result (λ p. p.width ≤ length bytes.now) }
 {
-    let c = byte_at(text, at);
-    if is_digit(c) {
-        return label_at(text, at);
-    }
-    match c {
-        68 => constant_at(text, at + 1),
-        67 => string_at(text, at + 1),
-        71 => global_at(text, at + 1),
-        _ => {
-            let function = function_of(c);
-            if function < 8 {
-                return instruction_at(text, at + 1, function);
-            }
-            ReadItem::Nothing
-        }
-    }
-}
-
-// Z, and what follows it.
-fn last_at(text: &[u8], at: usize) -> Next
-    requires { head (drop at text.now) ≡ 90 }
-    ensures { result ≡ as_next (element_at at (drop at text.now)) }
-{
-    if !marked(text, at, b'Z') {
-        return Next::Unreadable(at);
-    }
-    let end = past_gap(text, at + 1);
-    if end == text.len() {
-        return Next::Whole;
-    }
-    Next::Unreadable(end)
+    let [c, rest @ ..] = bytes else {
+        return None;
+    };
+    let part = match *c {
+        b'0'..=b'9' => return read_label(bytes),
+        b'D' => read_constant(rest)?,
+        b'C' => read_string(rest)?,
+        b'G' => read_global(rest)?,
+        letter => read_instruction(rest, function_of(letter)?)?,
+    };
+    Some(Part {
+        width: 1 + part.width,
+        ..part
+    })
 }
 
 // What stands next at a place, the gap there passed over.
+#[tactic(auto, using(crate::proofs::Elements::next_past), unfolding(crate::specs::Next::next_in, crate::specs::Next::element_at, crate::specs::Scan::gaps, crate::specs::Scan::mark, crate::specs::Scan::trailing, crate::specs::Reader::byte, crate::specs::Reader::head, crate::specs::Answers::as_next))]
 pub fn next_in(text: &[u8], at: usize) -> Next
     ensures { result ≡ as_next (next_in text.now at) }
 {
-    let place = past_gap(text, at);
-    if has(text, place, b'Z') {
-        return last_at(text, place);
+    let Some(rest) = text.get(at..) else {
+        return Next::Unreadable(at);
+    };
+    let gap = gap_width(rest);
+    let place = at + gap;
+    let bytes = &rest[gap..];
+    if let [b'Z', after @ ..] = bytes {
+        if !ended(after) {
+            return Next::Unreadable(place);
+        }
+        let trailing = gap_width(after);
+        if trailing == after.len() {
+            return Next::Whole;
+        }
+        return Next::Unreadable(place + 1 + trailing);
     }
-    let i = item_at(text, place);
-    match i {
-        ReadItem::Got(item, past) => Next::One(place, item, past),
-        ReadItem::Nothing => Next::Unreadable(place),
+    match read_item(bytes) {
+        Some(part) => Next::One(place, part.value, place + part.width),
+        None => Next::Unreadable(place),
     }
 }
 
 // Where the items begin: past the first one, which is $.
-pub fn start_in(text: &[u8]) -> Start
+#[tactic(auto, unfolding(crate::specs::Next::start_in, crate::specs::Answers::as_start))]
+pub fn start_in(text: &[u8]) -> Result<usize, Unreadable>
     ensures { result ≡ as_start (start_in text.now) }
 {
-    let place = past_gap(text, 0);
-    if marked(text, place, b'$') {
-        return Start::From(place + 1);
+    let place = gap_width(text);
+    if marked(&text[place..], b'$') {
+        Ok(place + 1)
+    } else {
+        Err(Unreadable { place })
     }
-    Start::Unreadable(place)
 }

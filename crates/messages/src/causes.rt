@@ -1,6 +1,5 @@
 // What is wrong, by the number of a refusal or stop. Each cause ends where a full stop is to stand.
 use crate::system::{EprintBytes, say};
-use items::Start;
 
 // What an assembly text that cannot be read lacks: its $, its Z, or an item in its proper form.
 #[derive(Drop)]
@@ -12,10 +11,9 @@ pub enum Lack {
 
 // What the text lacks, by the place of its refusal.
 pub fn lack_of(source: &[u8], place: usize) -> Lack {
-    let start = items::start_in(source);
-    match start {
-        Start::Unreadable(_) => lack_at_start(source, place),
-        Start::From(_) => lack_behind(source, place),
+    match items::start_in(source) {
+        Err(_) => lack_at_start(source, place),
+        Ok(_) => lack_behind(source, place),
     }
 }
 

@@ -8,7 +8,7 @@
 // GnLm for n. A string of more than two words goes on in further lines. Z, at the end, has the address of the first stack word.
 //
 // An accepted text fits the memory, so the tests of places and addresses here never fail; they stand in for its proof.
-use items::{Item, Next, Start};
+use items::{Item, Next};
 
 // What cannot be written is lost, and nothing comes of it.
 fn put(rt: &impl Print, bytes: &[u8]) {
@@ -191,9 +191,8 @@ fn list_items(rt: &impl Print, text: &[u8], from: usize, memory: &[u16]) {
 }
 
 pub fn list(rt: &impl Print, text: &[u8], memory: &[u16]) {
-    let start = items::start_in(text);
-    match start {
-        Start::Unreadable(_) => {}
-        Start::From(from) => list_items(rt, text, from, memory),
+    match items::start_in(text) {
+        Err(_) => {}
+        Ok(from) => list_items(rt, text, from, memory),
     }
 }
