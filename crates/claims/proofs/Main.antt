@@ -3,6 +3,7 @@
 -- Each of the functions `compile`, `assemble`, `run` and `execute` meets its contract for all inputs, ends, and touches no memory but what it
 -- is lent: that is what `rt check` proves of the code, and a call is known here by its contract alone (`Compiles`, `Assembles`, `Ends`).
 -- This page says what the contracts say together. `Table.antt` has the rows that document 01 marks P.
+use Rattle.std.specs.Prelude.{Err, Ok, Result}
 use Rattle.laws.proofs.Basics.{ℕ, ◌+◌, ◌-◌, ◌≤◌, ◌≡◌, refl, sym, ap, subst, ◌∙◌, List, [], ◌++◌, length, take, replicate}
 use Rattle.text.specs.Line.{refusal}
 use Rattle.machine.specs.Run.{run}
@@ -11,7 +12,6 @@ use Rattle.machine.proofs.Parts.{came-out}
 use Rattle.machine.specs.declared.Ran.{Ran}
 use Rattle.assembler.specs.Assemble.{Assembly, Assembles, assembled, numbers}
 use Rattle.assembler.specs.declared.Label.{Label}
-use Rattle.std.specs.Prelude.{Ok}
 use Rattle.language.specs.State.{State}
 use Rattle.language.specs.Program.{accepted, refused}
 use Rattle.language.specs.Whole.{refusal_in, strings_in, SourceRunEnds}
@@ -19,35 +19,34 @@ use Rattle.code.specs.Faithful.{placement_of, Follows}
 use Rattle.code.specs.Placed.{Proper}
 use Rattle.code.specs.Generate.{text_of}
 use Rattle.compiler.specs.Compiles.{decided, answer_of, text_after, Compiles}
-use Rattle.compiler.specs.declared.Compiled.{Compiled}
-use Rattle.compiler.specs.declared.Compiled.TheVariants as C
 use Rattle.code.proofs.Theorem.{faithful, proper}
 use Rattle.code.proofs.Instance.{source, written, answers, accepts as source-accepted, final, runs, low}
 use Rattle.execution.proofs.Following.{front}
+use Rattle.text.specs.declared.Refusal.{Refusal}
 
 -- a call of `compile`
-module _ {source scratch scratch' text text' : List ℕ} {answer : Compiled} (call : Compiles source scratch scratch' text text' answer) where
+module _ {source scratch scratch' text text' : List ℕ} {answer : Result ℕ Refusal} (call : Compiles source scratch scratch' text text' answer) where
   -- ---- demands 1 and 2: it answers or refuses by document 01's rules, in their order (language's `refusal_in`), and leaves the buffers
   -- as it says
 
   pub refuses : (number place : ℕ) → decided source (length scratch) (length text) ≡ refused number place
-      → (answer ≡ C.Refused (refusal source number place)) × (text' ≡ replicate (length text) 0) × (scratch' ≡ replicate (length scratch) 0)
+      → (answer ≡ Err (refusal source number place)) × (text' ≡ replicate (length text) 0) × (scratch' ≡ replicate (length scratch) 0)
   refuses number place e = (call.answers ∙ ap (answer_of source) e, call.writes ∙ ap (text_after source (length text)) e, call.clears)
 
   pub accepts : decided source (length scratch) (length text) ≡ accepted
-      → (answer ≡ C.Accepted (length (text_of source))) × (text' ≡ text_of source ++ replicate (length text - length (text_of source)) 0) ×
+      → (answer ≡ Ok (length (text_of source))) × (text' ≡ text_of source ++ replicate (length text - length (text_of source)) 0) ×
       (scratch' ≡ replicate (length scratch) 0)
   accepts e = (call.answers ∙ ap (answer_of source) e, call.writes ∙ ap (text_after source (length text)) e, call.clears)
 
   -- the rules on the text: where functions, strings and stack lie, its sizes, and that it is refused by 24 and 25 only
-  pub is-proper : {n : ℕ} → answer ≡ C.Accepted n → Proper source (text_of source)
+  pub is-proper : {n : ℕ} → answer ≡ Ok n → Proper source (text_of source)
   is-proper e = call.proper (front call e).accepts
 
   -- ---- demand 3: for every source that compiles to a text of n bytes, which assembles in a memory and a label table, and every source run
   -- with that placement that ends with no undefined act and uses none of the memory's last eight words, a run of the image follows it:
   -- "the machine does what the source run does", within 16 instructions a step plus 16
 
-  pub machine_follows : {n : ℕ} → answer ≡ C.Accepted n
+  pub machine_follows : {n : ℕ} → answer ≡ Ok n
       → {memory memory' : List ℕ} {labels labels' : List Label} {first : ℕ} → Assembles (take n text') memory labels (Ok first) memory'
       labels'
       → {input : List ℕ} {s : State} → SourceRunEnds source (placement_of source labels' first) (length memory) input s → s.used + 8 ≤ length memory
@@ -76,7 +75,7 @@ unfolding decided refusal_in
 lent = rw (source-accepted, written) refl
 
 compiled : Compiles source (replicate 1000 7) (replicate 1000 0) (replicate 100 7) (text_after source 100 (decided source 1000 100))
-    (C.Accepted (length (text_of source)))
+    (Ok (length (text_of source)))
 compiled = record {
   answers = ap (answer_of source) (sym lent);
   clears = refl;

@@ -1,4 +1,5 @@
 -- From the walk of the tree to the answer: what the walk asks holds of every tree that is read, and what it leaves is the generator's text.
+use Rattle.std.specs.Prelude.{Result}
 use Rattle.laws.proofs.Basics.{ℕ, zero, suc, ◌+◌, ◌-◌, ◌*◌, ◌≤◌, ◌≡◌, refl, sym, ap, ◌∙◌, List, [], ◌∷◌, ◌++◌, append_assoc, Bool, true, false, not}
 use Rattle.laws.proofs.Basics.{cond, length, get_or, take, drop, replicate, length-append, List·getD-append, length-take-le, get_or-append-add, eqb}
 use Rattle.laws.proofs.Basics.{ltb}
@@ -29,12 +30,11 @@ use Rattle.language.proofs.ReadTokens.{program as read_program}
 use Rattle.language.proofs.SymbolFacts.{scan-length, cost, cost-length, symbols_now, source_now, counts}
 use Rattle.compiler.proofs.Vocabulary.{STRINGS, Holds}
 use Rattle.symbols.specs.Read.{entries, Reads}
-use Rattle.symbols.specs.declared.SymbolsRead.{SymbolsRead}
+use Rattle.symbols.specs.declared.Unread.{Unread}
 use Rattle.tree.specs.Read.{padded, decoded}
 use Rattle.code.specs.Generate.{functions_code, strings_code, starts_code, items_of, text_of}
 use Rattle.writing.specs.Text.{Text, Appends, over, lines}
 use Rattle.writing.proofs.Laws.{over-length, lines_then, appends-none, appends-then, appends-as, upto-in}
-use Rattle.compiler.specs.declared.Compiled.{Compiled}
 use Rattle.compiler.specs.declared.program.Done.{Done}
 use Rattle.compiler.specs.Groups.{FineDs, Starting, encode_function, function_count, CountsFunctions}
 use Rattle.compiler.specs.Programs.{starts_of, ReadyProgram, Walked, GaveProgram}
@@ -46,6 +46,7 @@ use Rattle.compiler.proofs.Deciding.{decides}
 use Rattle.compiler.proofs.Clearing.{padded-long, padded-clean, clean-front, clean_all}
 use Rattle.compiler.proofs.Translating.{lent_still, rules-decide, symbols-left}
 use Rattle.compiler.proofs.StringsEnd.{string-count-is, strings-end}
+use Rattle.text.specs.declared.Refusal.{Refusal}
 
 -- ---- how many functions there are
 
@@ -148,7 +149,7 @@ no-strings {source} {s} {t} {count} {names} {first} {at} z = record {
     none (x ∷ xs) q = absurd (omega arith)
 
 -- the symbols read again
-module _ {source : List ℕ} (s : List ℕ) {front : List ℕ} {a : SymbolsRead} {count : ℕ} (l : Lent source (length s))
+module _ {source : List ℕ} (s : List ℕ) {front : List ℕ} {a : Result ℕ Unread} {count : ℕ} (l : Lent source (length s))
     (r : Reads source (take (length source * 3) s) a front) (ss : List Symbol) (e : symbols_of source ≡ good ss) (k : count ≡ length ss) where
   abbrev room : ℕ
   room = length source * 3
@@ -167,7 +168,7 @@ module _ {source : List ℕ} (s : List ℕ) {front : List ℕ} {a : SymbolsRead}
       clean-front room (ap length again ∙ padded-long (entries ss) room long) (padded-clean (entries ss) room again (omega (arith, entries-size ss)))
       c
 
-pub strings-gave : {source s front t t' : List ℕ} {a : SymbolsRead} {count names first at x : ℕ} → Lent source (length s)
+pub strings-gave : {source s front t t' : List ℕ} {a : Result ℕ Unread} {count names first at x : ℕ} → Lent source (length s)
     → Reads source (take (length source * 3) s) a front → WritesStrings source (front ++ drop (length source * 3) s) count first at x t t'
     → AllStrings source s (front ++ drop (length source * 3) s) count names first at x t t'
 strings-gave {source} {s} {front} {t} {t'} {a} {count} {names} {first} {at} l r w = record {
@@ -375,7 +376,7 @@ module _ {source s : List ℕ} {count end : ℕ} (y : ReadyTree source s count e
       clean-behind = b.clean.by y.symbols y.reads y.counts (omega arith)
           (record { zeros = λ i h. w.keeps.above i (omega arith) ∙ clean-at-end.zeros i h })
 
-      pub translates : {start room : ℕ} {a : Compiled} {z : List ℕ} → start ≡ get_or table' 1 0 → room ≡ length t
+      pub translates : {start room : ℕ} {a : Result ℕ Refusal} {z : List ℕ} → start ≡ get_or table' 1 0 → room ≡ length t
           → a ≡ by_keys source d'.state.worst d'.tall start last room → length s₂ ≡ length s → z ≡ take 0 (take end s₂) ++ replicate
           (length (take end s₂) - 0) 0 → Translates source s (z ++ drop end s₂) t t₃ a
       translates e k q same c =

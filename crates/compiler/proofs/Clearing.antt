@@ -1,4 +1,5 @@
 -- Zeros from a place on, where scratch holds nothing but zeros, and `compile`'s contract once they are written.
+use Rattle.std.specs.Prelude.{Err, Ok, Result}
 use Rattle.laws.proofs.Basics.{ℕ, zero, suc, ◌+◌, ◌-◌, ◌≤◌, ◌≡◌, refl, sym, ap, ◌∙◌, List, ◌++◌, append_assoc, length, get_or, take, drop, replicate}
 use Rattle.laws.proofs.Basics.{length-append, length-drop, length-replicate, replicate-append-replicate, List·getD-append, length-take-le, take_at}
 use Rattle.laws.proofs.Basics.{get_or-drop, get_or-append-add, ext_get_or, ltb, arith, ltb-true, ltb-false}
@@ -9,8 +10,6 @@ use Rattle.language.specs.Whole.{refusal_of, refusal_in, unless_fits}
 use Rattle.tree.specs.Read.{padded}
 use Rattle.code.proofs.Theorem.{faithful, proper}
 use Rattle.code.specs.Generate.{text_of}
-use Rattle.compiler.specs.declared.Compiled.{Compiled}
-use Rattle.compiler.specs.declared.Compiled.TheVariants as C
 use Rattle.compiler.specs.Compiles.{decided, answer_of, text_after, Begins, Compiles, Translates, Clean}
 
 pub cleared-all : (s : List ℕ) {s' : List ℕ} → s' ≡ take 0 s ++ replicate (length s - 0) 0 → s' ≡ replicate (length s) 0
@@ -72,12 +71,12 @@ zeros-behind s front k e h f w = let l : length front ≡ k = ap length f ∙ (l
 
 -- ---- after the clearing
 
-accepted-text : (source text t' : List ℕ) (n : ℕ) (d : Refused) → C.Accepted n ≡ answer_of source d → Begins source t' d → length t' ≡ length text
+accepted-text : (source text t' : List ℕ) (n : ℕ) (d : Refused) → Ok n ≡ answer_of source d → Begins source t' d → length t' ≡ length text
     → (n ≤ length t') × (take n t' ++ replicate (length t' - n) 0 ≡ text_after source (length text) d)
 accepted-text source text t' n accepted e b l = let z : n ≡ length (text_of source) = cc in (omega arith, rw (z, l, b.0))
 accepted-text source text t' n (refused number place) e b l = contradiction cc
 
-refused-text : (source text t' : List ℕ) (w : Refusal) (d : Refused) → C.Refused w ≡ answer_of source d → length t' ≡ length text
+refused-text : (source text t' : List ℕ) (w : Refusal) (d : Refused) → Err w ≡ answer_of source d → length t' ≡ length text
     → replicate {A = ℕ} (length t' - 0) 0 ≡ text_after source (length text) d
 refused-text source text t' w accepted e l = contradiction cc
 refused-text source text t' w (refused number place) e l = let z : length t' - 0 ≡ length text = omega arith in rw z
@@ -88,15 +87,15 @@ unfolding decided refusal_in
 accepts source scratch room = elim (refusal_of source scratch) as (λ x. unless_fits (length (text_of source)) room x ≡ accepted → x ≡ accepted)
     [ accepted ↦ λ h. refl | refused number place ↦ λ h. h ]
 
-module _ {source scratch scratch' text text₁ : List ℕ} {a : Compiled} (t : Translates source scratch scratch' text text₁ a)
+module _ {source scratch scratch' text text₁ : List ℕ} {a : Result ℕ Refusal} (t : Translates source scratch scratch' text text₁ a)
     (l : length text₁ ≡ length text) where
   abbrev decision : Refused
   decision = decided source (length scratch) (length text)
 
-  pub accepted-fits : {n : ℕ} → a ≡ C.Accepted n → n ≤ length text₁
+  pub accepted-fits : {n : ℕ} → a ≡ Ok n → n ≤ length text₁
   accepted-fits {n} e = (accepted-text source text text₁ n decision (sym e ∙ t.answers) t.begins l).0
 
-  compiles : {text₂ : List ℕ} (b : Compiled) → a ≡ b → text₂ ≡ text_after source (length text) decision → Compiles source scratch scratch' text text₂ b
+  compiles : {text₂ : List ℕ} (b : Result ℕ Refusal) → a ≡ b → text₂ ≡ text_after source (length text) decision → Compiles source scratch scratch' text text₂ b
   compiles b e w = record {
     answers = sym e ∙ t.answers;
     clears = t.clears;
@@ -105,11 +104,11 @@ module _ {source scratch scratch' text text₁ : List ℕ} {a : Compiled} (t : T
     proper = λ h. proper source (length scratch) (accepts source (length scratch) (length text) h);
   }
 
-  pub compiles-accepted : {text₂ : List ℕ} {n : ℕ} → a ≡ C.Accepted n → text₂ ≡ take n text₁ ++ replicate (length text₁ - n) 0
-      → Compiles source scratch scratch' text text₂ (C.Accepted n)
+  pub compiles-accepted : {text₂ : List ℕ} {n : ℕ} → a ≡ Ok n → text₂ ≡ take n text₁ ++ replicate (length text₁ - n) 0
+      → Compiles source scratch scratch' text text₂ (Ok n)
   compiles-accepted {text₂} {n} e et =
-      compiles (C.Accepted n) e (et ∙ (accepted-text source text text₁ n decision (sym e ∙ t.answers) t.begins l).1)
+      compiles (Ok n) e (et ∙ (accepted-text source text text₁ n decision (sym e ∙ t.answers) t.begins l).1)
 
-  pub compiles-refused : {text₂ : List ℕ} {w : Refusal} → a ≡ C.Refused w → text₂ ≡ take 0 text₁ ++ replicate (length text₁ - 0) 0
-      → Compiles source scratch scratch' text text₂ (C.Refused w)
-  compiles-refused {text₂} {w} e et = compiles (C.Refused w) e (et ∙ refused-text source text text₁ w decision (sym e ∙ t.answers) l)
+  pub compiles-refused : {text₂ : List ℕ} {w : Refusal} → a ≡ Err w → text₂ ≡ take 0 text₁ ++ replicate (length text₁ - 0) 0
+      → Compiles source scratch scratch' text text₂ (Err w)
+  compiles-refused {text₂} {w} e et = compiles (Err w) e (et ∙ refused-text source text text₁ w decision (sym e ∙ t.answers) l)

@@ -1,4 +1,5 @@
 -- The least key of faults is that of the least fault, if places and numbers fit; and the answer by the least keys is that of the rules.
+use Rattle.std.specs.Prelude.{Err, Ok, Result}
 use Rattle.laws.proofs.Basics.{ℕ, ◌+◌, ◌*◌, ◌/◌, ◌%◌, ◌^◌, ◌<◌, ◌≤◌, ◌≡◌, refl, ap, ◌∙◌, List, [], ◌∷◌, Bool, true, false, not, cond, length, eqb}
 use Rattle.laws.proofs.Basics.{ltb, arith, eqb-true, eqb-false, eq-eqb, ne_eqb, ltb-true, ltb-false, lt-ltb, le-ltb}
 use Rattle.laws.proofs.Cases.{by_cases}
@@ -11,9 +12,8 @@ use Rattle.language.specs.Whole.{unless_fits}
 use Rattle.code.specs.Generate.{text_of}
 use Rattle.writing.specs.Text.{upto}
 use Rattle.writing.proofs.Laws.{upto-in, upto-past}
-use Rattle.compiler.specs.declared.Compiled.{Compiled}
-use Rattle.compiler.specs.declared.Compiled.TheVariants as C
 use Rattle.compiler.specs.Compiles.{NONE, by_keys, answer_of}
+use Rattle.text.specs.declared.Refusal.{Refusal}
 
 abbrev earlier : (p n q m : ℕ) → Bool
 earlier p n q m = cond (ltb p q) true (cond (eqb p q) (ltb n m) false)
@@ -50,23 +50,23 @@ least_fits f (g ∷ gs) a (and_fit p n h) =
     by_cases (before g f) (λ e. rw e (least_fits g gs (record { place = p; number = n }) h)) (λ e. rw e (least_fits f gs a h))
 
 -- as `answer_of`, of a text of any length
-abbrev answer : List ℕ → (size : ℕ) → Refused → Compiled
-answer source size accepted = C.Accepted size
-answer source size (refused number place) = C.Refused (refusal source number place)
+abbrev answer : List ℕ → (size : ℕ) → Refused → Result ℕ Refusal
+answer source size accepted = Ok size
+answer source size (refused number place) = Err (refusal source number place)
 
 same_answer : (source : List ℕ) (r : Refused) → answer source (length (text_of source)) r ≡ answer_of source r
 same_answer source accepted = refl
 same_answer source (refused number place) = refl
 
 -- the refusal that a key stands for
-abbrev by_key : List ℕ → ℕ → Compiled
-by_key source k = C.Refused (refusal source (k % 32) (k / 32))
+abbrev by_key : List ℕ → ℕ → Result ℕ Refusal
+by_key source k = Err (refusal source (k % 32) (k / 32))
 
-key-refusal : (source : List ℕ) (f : Fault) → Fits f → by_key source (key f) ≡ C.Refused (refusal source f.number f.place)
+key-refusal : (source : List ℕ) (f : Fault) → Fits f → by_key source (key f) ≡ Err (refusal source f.number f.place)
 key-refusal source f a = let n : key f % 32 ≡ f.number = omega arith in let p : key f / 32 ≡ f.place = omega arith in rw (n, p) refl
 
 -- faults by their least key, and else what else is answered
-by-least : (source : List ℕ) (k size room : ℕ) (fs : List Fault) → AllFit fs → k ≡ least NONE fs → (other : Compiled) (rest : Refused)
+by-least : (source : List ℕ) (k size room : ℕ) (fs : List Fault) → AllFit fs → k ≡ least NONE fs → (other : Result ℕ Refusal) (rest : Refused)
     → (fs ≡ [] → other ≡ answer source size (unless_fits size room rest))
     → cond (ltb k NONE) (by_key source k) other ≡ answer source size (unless_fits size room (least_or fs rest))
 unfolding least
@@ -78,13 +78,13 @@ by-least source k size room (f ∷ fs) (and_fit p n h) e other rest o =
 
 -- the end of the text, as far as it is told
 by-room : (source : List ℕ) (at size room : ℕ) → at ≡ upto room size
-    → cond (ltb room at) (C.Refused (refusal source 15 0)) (C.Accepted at) ≡ answer source size (unless_fits size room accepted)
+    → cond (ltb room at) (Err (refusal source 15 0)) (Ok at) ≡ answer source size (unless_fits size room accepted)
 by-room source at size room e =
     by_cases (ltb room size) (λ h. rw (e, upto-past room size (ltb-true room size h), lt-ltb room (room + 1) (omega arith), h))
     (λ h. rw (e, upto-in room size (ltb-false room size h), h))
 
 by-start : (source : List ℕ) (b : Bool) (start at size room : ℕ) → eqb start 0 ≡ not b → at ≡ upto room size
-    → cond (eqb start 0) (C.Refused (refusal source 14 0)) (cond (ltb room at) (C.Refused (refusal source 15 0)) (C.Accepted at))
+    → cond (eqb start 0) (Err (refusal source 14 0)) (cond (ltb room at) (Err (refusal source 15 0)) (Ok at))
     ≡ answer source size (unless_fits size room (cond b accepted (refused 14 0)))
 by-start source true start at size room e h = rw e (by-room source at size room h)
 by-start source false start at size room e h = rw e refl
@@ -113,15 +113,15 @@ module _ (source : List ℕ) (worst tall start at room : ℕ) where
     by-tall k = rw (le-ltb worst NONE h, lt-ltb tall NONE k) refl
 
     module _ (k : NONE ≤ tall) where
-      pub by-none : start ≡ 0 → C.Refused (refusal source 14 0) ≡ by_keys source worst tall start at room
+      pub by-none : start ≡ 0 → Err (refusal source 14 0) ≡ by_keys source worst tall start at room
       unfolding by_keys
       by-none e = rw (le-ltb worst NONE h, le-ltb tall NONE k, eq-eqb start 0 e) refl
 
       module _ (n : start ≢ 0) where
-        pub by-past : room < at → C.Refused (refusal source 15 0) ≡ by_keys source worst tall start at room
+        pub by-past : room < at → Err (refusal source 15 0) ≡ by_keys source worst tall start at room
         unfolding by_keys
         by-past l = rw (le-ltb worst NONE h, le-ltb tall NONE k, ne_eqb start 0 n, lt-ltb room at l) refl
 
-        pub by_end : at ≤ room → C.Accepted at ≡ by_keys source worst tall start at room
+        pub by_end : at ≤ room → Ok at ≡ by_keys source worst tall start at room
         unfolding by_keys
         by_end l = rw (le-ltb worst NONE h, le-ltb tall NONE k, ne_eqb start 0 n, le-ltb room at l) refl

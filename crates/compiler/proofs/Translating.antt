@@ -1,4 +1,5 @@
 -- From the readers' answers to the refusals of the source, and to what the walk of the tree asks.
+use Rattle.std.specs.Prelude.{Err, Ok, Result}
 use Rattle.laws.proofs.Basics.{ℕ, ◌+◌, ◌-◌, ◌*◌, ◌^◌, ◌≤◌, ◌≡◌, refl, sym, ap, subst, ◌∙◌, List, ◌++◌, Bool, true, false, length, take, drop}
 use Rattle.laws.proofs.Basics.{replicate, length-append, length-take-le, take_at, drop_at, arith, ltb-false, le-ltb}
 use Rattle.laws.proofs.Cases.{contradiction}
@@ -12,16 +13,17 @@ use Rattle.compiler.proofs.Language.{Program, encode_program}
 use Rattle.language.specs.Program.{refused, rules_refuse}
 use Rattle.language.specs.Whole.{refusal_of, refusal_in, on_read, unless_fits}
 use Rattle.symbols.specs.Read.{Reads, symbols_read, outcome, entries}
-use Rattle.symbols.specs.declared.SymbolsRead.{SymbolsRead}
-use Rattle.symbols.specs.declared.SymbolsRead.TheVariants as YA
+use Rattle.text.specs.Faults.{number_of}
+use Rattle.text.specs.declared.faults.Fault as N
+use Rattle.symbols.specs.Read as YA
+use Rattle.symbols.specs.declared.Unread.{Unread}
+use Rattle.symbols.specs.declared.Unread.TheVariants as U
 use Rattle.tree.specs.Read as R
 use Rattle.tree.specs.Read.{ReadsTree, tree_read, tree_left, left_by, padded, decoded, source_in, too_short, Within}
 use Rattle.tree.specs.declared.TreeRead.{TreeRead}
 use Rattle.tree.specs.declared.TreeRead.TheVariants as Ra
 use Rattle.tree.proofs.Stages.{few-good, decoded-entries, entries-size}
 use Rattle.code.specs.Generate.{text_of}
-use Rattle.compiler.specs.declared.Compiled.{Compiled}
-use Rattle.compiler.specs.declared.Compiled.TheVariants as C
 use Rattle.compiler.specs.Compiles.{decided, answer_of, Begins, Translates, Lent, Serves, ReadySymbols, ReadyTree, Clean}
 use Rattle.compiler.proofs.Clearing.{cleared-all, padded-long, padded-on, padded-clean, clean_all, zeros-behind}
 
@@ -29,30 +31,30 @@ use Rattle.compiler.proofs.Clearing.{cleared-all, padded-long, padded-on, padded
 
 -- a refusal: nothing is said of the text
 pub refusing : {source s s' : List ℕ} {number place : ℕ} {t t' : List ℕ} {w : Refusal} → w ≡ refusal source number place
-    → decided source (length s) (length t) ≡ refused number place → s' ≡ replicate (length s) 0 → Translates source s s' t t' (C.Refused w)
+    → decided source (length s) (length t) ≡ refused number place → s' ≡ replicate (length s) 0 → Translates source s s' t t' (Err w)
 refusing {source} {s} {s'} {number} {place} {t} {t'} q e z =
-    record { answers = ap C.Refused q ∙ ap (answer_of source) (sym e); clears = z; begins = subst (Begins source t') (sym e) tt }
+    record { answers = ap Err q ∙ ap (answer_of source) (sym e); clears = z; begins = subst (Begins source t') (sym e) tt }
 
 pub lent_still : {source : List ℕ} {n m : ℕ} → Lent source n → m ≡ n → Lent source m
 lent_still l e = record { short = l.short; asked = e ∙ l.asked }
 
 -- other scratch, with the same refusals
-decided-alike : {source s s' t t' : List ℕ} {a : Compiled} → Translates source s s' t t' a → {s₀ s₂ : List ℕ}
+decided-alike : {source s s' t t' : List ℕ} {a : Result ℕ Refusal} → Translates source s s' t t' a → {s₀ s₂ : List ℕ}
     → decided source (length s) (length t) ≡ decided source (length s₀) (length t) → s₂ ≡ replicate (length s₀) 0 → Translates source s₀ s₂ t t' a
 decided-alike {source} {s} {s'} {t} {t'} x e z =
     record { answers = x.answers ∙ ap (answer_of source) e; clears = z; begins = subst (Begins source t') e x.begins }
 
-pub with-scratch : {source s s₀ s' t t' : List ℕ} {a : Compiled} → length s ≡ length s₀ → Translates source s s' t t' a
+pub with-scratch : {source s s₀ s' t t' : List ℕ} {a : Result ℕ Refusal} → length s ≡ length s₀ → Translates source s s' t t' a
     → Translates source s₀ s' t t' a
 with-scratch e x = decided-alike x (rw e) (rw (x.clears, e))
 
 module _ {source s s' t t' : List ℕ} {w : Refusal} {b : Bool} (e : b ≡ too_long source) (z : s' ≡ take 0 s ++ replicate (length s - 0) 0) where
-  pub too_long_lem : b ≡ true → w ≡ refusal source 1 0 → Translates source s s' t t' (C.Refused w)
+  pub too_long_lem : b ≡ true → w ≡ refusal source 1 0 → Translates source s s' t t' (Err w)
   unfolding decided refusal_in refusal_of read_source
   too_long_lem h q = refusing q (rw (sym e ∙ h) refl) (cleared-all s z)
 
   pub too_short_lem : {d : Bool} → b ≡ false → d ≡ scratch_too_short source (length s) → d ≡ true → w ≡ refusal source 15 0
-      → Translates source s s' t t' (C.Refused w)
+      → Translates source s s' t t' (Err w)
   unfolding decided refusal_in refusal_of read_source
   too_short_lem h k g q = refusing q (rw (sym e ∙ h, sym k ∙ g) refl) (cleared-all s z)
 
@@ -83,7 +85,7 @@ module _ {source : List ℕ} {scratch : ℕ} (l : Lent source scratch) (room : �
 
 -- ---- after `read_symbols`
 
-module _ {source s s' : List ℕ} {a : SymbolsRead} (short : length source ≤ 16384) (room : length source * 3 ≤ length s)
+module _ {source s s' : List ℕ} {a : Result ℕ Unread} (short : length source ≤ 16384) (room : length source * 3 ≤ length s)
     (r : Reads source s a s') where
   both_ways : symbols_read source s ≡ outcome (length s) (symbols_of source)
   unfolding symbols_read too_long
@@ -93,35 +95,42 @@ module _ {source s s' : List ℕ} {a : SymbolsRead} (short : length source ≤ 1
   symbols-left x e = r.leaves ∙ (rw (both_ways, e))
 
   -- the symbols, or a refusal
-  by-symbols : (P : Type 0) → ((ss : List Symbol) → symbols_of source ≡ good ss → a ≡ YA.Read (length ss) → P)
-      → ((number place : ℕ) → symbols_of source ≡ faulty number place → a ≡ YA.Refused number place → P) → P
-  by-symbols P f g = elim (symbols_of source) as (λ x. symbols_of source ≡ x → a ≡ (outcome (length s) x).answer → P)
+  by-symbols : (P : Type 0) → ((ss : List Symbol) → symbols_of source ≡ good ss → YA.answer_of a ≡ YA.read (length ss) → P)
+      → ((number place : ℕ) → symbols_of source ≡ faulty number place → YA.answer_of a ≡ YA.refused number place → P) → P
+  by-symbols P f g = elim (symbols_of source) as (λ x. symbols_of source ≡ x → YA.answer_of a ≡ (outcome (length s) x).answer → P)
       [ good ss ↦ f ss | faulty number place ↦ g number place ] refl (r.answers ∙ rw both_ways)
 
-module _ {source s s' : List ℕ} {a : SymbolsRead} (l : Lent source (length s)) (r : Reads source s a s') where
+module _ {source s s' : List ℕ} {a : Result ℕ Unread} (l : Lent source (length s)) (r : Reads source s a s') where
   room : length source * 3 ≤ length s
   room = omega arith
 
-  pub ready-symbols : {count : ℕ} → length s' ≡ length s → a ≡ YA.Read count → ReadySymbols source s' count
+  pub ready-symbols : {count : ℕ} → length s' ≡ length s → a ≡ Ok count → ReadySymbols source s' count
   ready-symbols {count} same e = by-symbols l.short room r (ReadySymbols source s' count) (λ ss q w. record {
     lent = lent_still l same;
     symbols = ss;
     reads = q;
-    counts = cc;
+    counts = (let k : YA.read count ≡ YA.read (length ss) = ap YA.answer_of (sym e) ∙ w in cc);
     stand = symbols-left l.short room r (good ss) q ∙ ap (λ (n : ℕ). (outcome n (good ss)).scratch) (sym same);
-  }) (λ number place q w. contradiction cc)
+  }) (λ number place q w. let k : YA.read count ≡ YA.refused number place = ap YA.answer_of (sym e) ∙ w in contradiction cc)
 
-  pub symbols-answer : {number place : ℕ} {t t' : List ℕ} {w : Refusal} → a ≡ YA.Refused number place → w ≡ refusal source number place
-      → Translates source s s' t t' (C.Refused w)
-  symbols-answer {number} {place} {t} {t'} {w} e q = by-symbols l.short room r (Translates source s s' t t' (C.Refused w))
-      (λ ss z v. contradiction cc) (λ m p z v. let i : m ≡ number = cc in let j : p ≡ place = cc in
+  pub symbols-answer : {fault : N.Fault} {place : ℕ} {t t' : List ℕ} {w : Refusal} → a ≡ Err (U.Refused fault place)
+      → w ≡ refusal source (number_of fault) place
+      → Translates source s s' t t' (Err w)
+  symbols-answer {fault} {place} {t} {t'} {w} e q = by-symbols l.short room r (Translates source s s' t t' (Err w))
+      (λ ss z v. let k : YA.refused (number_of fault) place ≡ YA.read (length ss) = ap YA.answer_of (sym e) ∙ v in contradiction cc)
+      (λ m p z v. let k : YA.refused (number_of fault) place ≡ YA.refused m p = ap YA.answer_of (sym e) ∙ v in
+      let i : m ≡ number_of fault = cc in let j : p ≡ place = cc in
       refusing q (symbols-refused l (length t) m p z ∙ rw (i, j)) (symbols-left l.short room r (faulty m p) z))
 
-  pub never-long : a ≡ YA.TooLong → ⊥
-  never-long e = by-symbols l.short room r ⊥ (λ ss q w. contradiction cc) (λ number place q w. contradiction cc)
+  pub never-long : a ≡ Err U.TooLong → ⊥
+  never-long e = by-symbols l.short room r ⊥
+      (λ ss q w. let k : YA.long ≡ YA.read (length ss) = ap YA.answer_of (sym e) ∙ w in contradiction cc)
+      (λ number place q w. let k : YA.long ≡ YA.refused number place = ap YA.answer_of (sym e) ∙ w in contradiction cc)
 
-  pub never-short : a ≡ YA.TooShort → ⊥
-  never-short e = by-symbols l.short room r ⊥ (λ ss q w. contradiction cc) (λ number place q w. contradiction cc)
+  pub never-short : a ≡ Err U.TooShort → ⊥
+  never-short e = by-symbols l.short room r ⊥
+      (λ ss q w. let k : YA.short ≡ YA.read (length ss) = ap YA.answer_of (sym e) ∙ w in contradiction cc)
+      (λ number place q w. let k : YA.short ≡ YA.refused number place = ap YA.answer_of (sym e) ∙ w in contradiction cc)
 
 -- ---- after `read_tree`, which is lent eight entries a symbol and 64
 
@@ -206,11 +215,11 @@ module _ {source s : List ℕ} {count : ℕ} (y : ReadySymbols source s count) w
     -- the symbols are cleared
     pub tree-answer : {number place : ℕ} {t t' z : List ℕ} {w : Refusal} → a ≡ Ra.Refused number place → w ≡ refusal source number place
         → z ≡ take 0 (take (count * 3) s') ++ replicate (length (take (count * 3) s') - 0) 0
-        → Translates source s (z ++ drop (count * 3) s') t t' (C.Refused w)
+        → Translates source s (z ++ drop (count * 3) s') t t' (Err w)
     tree-answer {number} {place} {t} {t'} {z} {w} e q c = go (tree_of src) refl (sym e ∙ tree-told.0) tree-told.1
       where
         go : (o : Out Program) → tree_of src ≡ o → Ra.Refused number place ≡ R.answer_of src count o → front ≡ left_by count (take most s) o
-            → Translates source s (z ++ drop (count * 3) s') t t' (C.Refused w)
+            → Translates source s (z ++ drop (count * 3) s') t t' (Err w)
         go (ok p next) k v l = contradiction cc
         go (no m at) k v l =
             let i : m ≡ number = cc in let j : place_at src at ≡ place = cc in let few : length ss ≤ most = omega (arith, size) in let u = whole ss
@@ -246,7 +255,7 @@ module _ {source s : List ℕ} (v : Serves source s) where
   front-inside e = omega arith
 
   -- more scratch than is asked for makes no other answer, and is cleared
-  pub more-scratch : {s' front t t' : List ℕ} {a : Compiled} → Translates source (take (asked source) s) front t t' a
+  pub more-scratch : {s' front t t' : List ℕ} {a : Result ℕ Refusal} → Translates source (take (asked source) s) front t t' a
       → s' ≡ take (asked source) (front ++ drop (asked source) s) ++ replicate (length (front ++ drop (asked source) s) - asked source) 0
       → Translates source s s' t t' a
   more-scratch {s'} {front} {t} x c = let enough = enough-scratch {m = length s} front-lent (omega (arith, front_long)) (length t) in

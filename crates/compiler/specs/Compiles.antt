@@ -1,4 +1,5 @@
 -- What `compile` answers and leaves, for every source, scratch and text.
+use Rattle.std.specs.Prelude.{Err, Ok, Result}
 use Rattle.std.specs.Prelude.{ℕ, suc, ◌+◌, ◌*◌, ◌-◌, ◌/◌, ◌%◌, ◌≤◌, ◌^◌, ◌≡◌, cond, List, [], ◌∷◌, ◌++◌, length, get_or, replicate, take, eqb, ltb}
 use Rattle.text.specs.Line.{refusal}
 use Rattle.language.specs.Symbols.{Symbol}
@@ -18,24 +19,23 @@ use Rattle.code.specs.Placed.{Proper}
 use Rattle.code.specs.Generate.{text_of, strings_code, starts_code}
 use Rattle.compiler.specs.Groups.{Starting}
 use Rattle.compiler.specs.Programs.{starts_of}
-use Rattle.compiler.specs.declared.Compiled.{Compiled}
-use Rattle.compiler.specs.declared.Compiled.TheVariants as C
+use Rattle.text.specs.declared.Refusal.{Refusal}
 
 -- all refusals in document 01's order, with so many entries of scratch and room for so many bytes of text
 unfoldable pub decided : (source : List ℕ) (scratch room : ℕ) → Refused
 decided source scratch room = refusal_in source scratch (length (text_of source)) room
 
 -- the text's length; or the refusal's number, place and line
-abbrev pub answer_of : (source : List ℕ) → Refused → Compiled
-answer_of source accepted = C.Accepted (length (text_of source))
-answer_of source (refused number place) = C.Refused (refusal source number place)
+abbrev pub answer_of : (source : List ℕ) → Refused → Result ℕ Refusal
+answer_of source accepted = Ok (length (text_of source))
+answer_of source (refused number place) = Err (refusal source number place)
 
 -- the text, and zeros behind it; zeros where the source is refused
 abbrev pub text_after : (source : List ℕ) (room : ℕ) → Refused → List ℕ
 text_after source room accepted = text_of source ++ replicate (room - length (text_of source)) 0
 text_after source room (refused number place) = replicate room 0
 
-pub record Compiles (source scratch scratch' text text' : List ℕ) (answer : Compiled) : Type 0 where
+pub record Compiles (source scratch scratch' text text' : List ℕ) (answer : Result ℕ Refusal) : Type 0 where
   pub answers : answer ≡ answer_of source (decided source (length scratch) (length text))
   pub clears : scratch' ≡ replicate (length scratch) 0
   pub writes : text' ≡ text_after source (length text) (decided source (length scratch) (length text))
@@ -50,7 +50,7 @@ abbrev pub Begins : (source text' : List ℕ) → Refused → Type 0
 Begins source text' accepted = (take (length (text_of source)) text' ≡ text_of source) × (length (text_of source) ≤ length text')
 Begins source text' (refused number place) = Unit {0}
 
-pub record Translates (source scratch scratch' text text' : List ℕ) (answer : Compiled) : Type 0 where
+pub record Translates (source scratch scratch' text text' : List ℕ) (answer : Result ℕ Refusal) : Type 0 where
   pub answers : answer ≡ answer_of source (decided source (length scratch) (length text))
   pub clears : scratch' ≡ replicate (length scratch) 0
   pub begins : Begins source text' (decided source (length scratch) (length text))
@@ -111,9 +111,9 @@ abbrev pub NONE : ℕ
 NONE = 2 ^ 37
 
 -- the answer by the least keys of 8 to 13 and of 16, the label of START, and the end of the text
-unfoldable pub by_keys : (source : List ℕ) (worst tall start at room : ℕ) → Compiled
+unfoldable pub by_keys : (source : List ℕ) (worst tall start at room : ℕ) → Result ℕ Refusal
 by_keys source worst tall start at room =
-    cond (ltb worst NONE) (C.Refused (refusal source (worst % 32) (worst / 32)))
-    (cond (ltb tall NONE) (C.Refused (refusal source (tall % 32) (tall / 32)))
-    (cond (eqb start 0) (C.Refused (refusal source 14 0))
-    (cond (ltb room at) (C.Refused (refusal source 15 0)) (C.Accepted at))))
+    cond (ltb worst NONE) (Err (refusal source (worst % 32) (worst / 32)))
+    (cond (ltb tall NONE) (Err (refusal source (tall % 32) (tall / 32)))
+    (cond (eqb start 0) (Err (refusal source 14 0))
+    (cond (ltb room at) (Err (refusal source 15 0)) (Ok at))))

@@ -14,7 +14,9 @@ mod steps;
 mod strings;
 mod walk;
 
-ghost use Rattle.std.specs.Prelude.{◌≡◌, ◌++◌, ◌+◌, ◌*◌, ◌-◌, ◌≤◌, length, take, replicate};
+ghost use Rattle.text.specs.Faults.{number_of};
+ghost use Rattle.text.specs.Line.{refusal};
+ghost use Rattle.std.specs.Prelude.{◌≡◌, Err, ◌++◌, ◌+◌, ◌*◌, ◌-◌, ◌≤◌, length, take, replicate};
 ghost use Rattle.compiler.specs.Compiles.{Compiles, Translates, NONE, by_keys, ReadyTree, ReadySymbols, Lent, Serves, AllStrings, Behind};
 
 use crate::outer::function_count;
@@ -22,16 +24,9 @@ use crate::program::{Done, program};
 use crate::scope::entry;
 use crate::steps::State;
 use crate::strings::{closing, opening, starts, string_count, strings};
-use symbols::{SymbolsRead, clear_from, read_symbols, scratch_too_short, too_long};
-use text::{Refusal, refuse};
+use symbols::{Unread, clear_from, read_symbols, scratch_too_short, too_long};
+use text::{Fault, Refusal, refuse};
 use tree::{TreeRead, read_tree};
-
-// The text's length, or a refusal.
-#[derive(Drop)]
-pub enum Compiled {
-    Accepted(usize),
-    Refused(Refusal),
-}
 
 // A key, place * 32 + number, above all refusals'.
 const NONE: usize = 137438953472;
@@ -43,18 +38,8 @@ const DEPTH: usize = 520;
 fn clear_text(text: &mut [u8], from: usize)
     ensures { text.new ≡ take from text.old ++ replicate (length text.old - from) 0 }
 {
-    let mut i = from;
-    while i < text.len() {
-        text[i] = 0;
-        i += 1;
-    }
-}
-
-// Of each global, the label of the function that starts in it: none yet.
-fn no_starts() -> [u32; 400]
-    ensures { result ≡ replicate 400 0 }
-{
-    [0u32; 400]
+    let start = from.min(text.len());
+    text[start..].fill(0);
 }
 
 // The strings, so many, from that label on. The names in scope stood where the symbols were, so where there are any these are read again,
@@ -75,7 +60,7 @@ fn all_strings(
     if names == 0 {
         return at;
     }
-    read_symbols(source, &mut s[..source.len() * 3]);
+    let _ = read_symbols(source, &mut s[..source.len() * 3]);
     strings(source, s, count, text, at, first)
 }
 
@@ -99,6 +84,13 @@ fn behind(
     closing(text, b)
 }
 
+// A refusal by its fault.
+fn refused(source: &[u8], fault: Fault, place: usize) -> Result<usize, Refusal>
+    ensures { result ≡ Err (refusal source.now (number_of fault) place) }
+{
+    Err(refuse(source, fault.number(), place))
+}
+
 // The answer by the least keys of 8 to 13 and of 16, the label of START, and the end of the text.
 fn decide(
     source: &[u8],
@@ -107,34 +99,41 @@ fn decide(
     start: usize,
     at: usize,
     room: usize,
-) -> Compiled
+) -> Result<usize, Refusal>
     ensures { result ≡ by_keys source.now worst tall start at room }
 {
     if worst < NONE {
-        return Compiled::Refused(refuse(source, (worst % 32) as u16, worst / 32));
+        return Err(refuse(source, (worst % 32) as u16, worst / 32));
     }
     if tall < NONE {
-        return Compiled::Refused(refuse(source, (tall % 32) as u16, tall / 32));
+        return Err(refuse(source, (tall % 32) as u16, tall / 32));
     }
     if start == 0 {
-        return Compiled::Refused(refuse(source, 14, 0));
+        return refused(source, Fault::NoStart, 0);
     }
     if room < at {
-        return Compiled::Refused(refuse(source, 15, 0));
+        return refused(source, Fault::RoomTooShort, 0);
     }
-    Compiled::Accepted(at)
+    Ok(at)
 }
 
 // The walk of the tree, which stands behind so many symbols and ends there. Scratch is zeros behind the tree,
 // and at the end all of it.
-fn walked(source: &[u8], s: &mut [u32], count: usize, end: usize, text: &mut [u8]) -> Compiled
+fn walked(
+    source: &[u8],
+    s: &mut [u32],
+    count: usize,
+    end: usize,
+    text: &mut [u8],
+) -> Result<usize, Refusal>
     requires { ReadyTree source.now s.old count end }
     ensures { Translates source.now s.old s.new text.old text.new result }
 {
     let base = count * 3;
     let functions = function_count(s, base, end);
     let names = string_count(s, count);
-    let mut table = no_starts();
+    // Of each global, the label of the function that starts in it: none yet.
+    let mut table = [0u32; 400];
     let at = opening(text, 0);
     let d = Done {
         tall: NONE,
@@ -169,7 +168,7 @@ fn walked(source: &[u8], s: &mut [u32], count: usize, end: usize, text: &mut [u8
 }
 
 // The tree of so many symbols, in as much of scratch as it may take, and its walk.
-fn parsed(source: &[u8], s: &mut [u32], count: usize, text: &mut [u8]) -> Compiled
+fn parsed(source: &[u8], s: &mut [u32], count: usize, text: &mut [u8]) -> Result<usize, Refusal>
     requires { ReadySymbols source.now s.old count }
     ensures { Translates source.now s.old s.new text.old text.new result }
 {
@@ -177,27 +176,27 @@ fn parsed(source: &[u8], s: &mut [u32], count: usize, text: &mut [u8]) -> Compil
         TreeRead::Read(end) => walked(source, s, count, end, text),
         TreeRead::Refused { number, place } => {
             clear_from(&mut s[..count * 3], 0);
-            Compiled::Refused(refuse(source, number, place))
+            Err(refuse(source, number, place))
         }
-        TreeRead::TooShort => Compiled::Refused(refuse(source, 15, 0)),
+        TreeRead::TooShort => refused(source, Fault::RoomTooShort, 0),
     }
 }
 
 // The symbols, their tree, and its walk, in scratch of just the length that is asked for.
-fn translated(source: &[u8], s: &mut [u32], text: &mut [u8]) -> Compiled
+fn translated(source: &[u8], s: &mut [u32], text: &mut [u8]) -> Result<usize, Refusal>
     requires { Lent source.now (length s.old) }
     ensures { Translates source.now s.old s.new text.old text.new result }
 {
     match read_symbols(source, s) {
-        SymbolsRead::Read(count) => parsed(source, s, count, text),
-        SymbolsRead::Refused { number, place } => Compiled::Refused(refuse(source, number, place)),
-        SymbolsRead::TooShort => Compiled::Refused(refuse(source, 15, 0)),
-        SymbolsRead::TooLong => Compiled::Refused(refuse(source, 1, 0)),
+        Ok(count) => parsed(source, s, count, text),
+        Err(Unread::Refused { fault, place }) => refused(source, fault, place),
+        Err(Unread::TooShort) => refused(source, Fault::RoomTooShort, 0),
+        Err(Unread::TooLong) => refused(source, Fault::SourceTooLong, 0),
     }
 }
 
 // The part of scratch that is asked for is worked in, and what is behind it cleared.
-fn in_part(source: &[u8], scratch: &mut [u32], text: &mut [u8]) -> Compiled
+fn in_part(source: &[u8], scratch: &mut [u32], text: &mut [u8]) -> Result<usize, Refusal>
     requires { Serves source.now scratch.old }
     ensures { Translates source.now scratch.old scratch.new text.old text.new result }
 {
@@ -208,33 +207,33 @@ fn in_part(source: &[u8], scratch: &mut [u32], text: &mut [u8]) -> Compiled
 }
 
 // All but the clearing of the text.
-fn attempt(source: &[u8], scratch: &mut [u32], text: &mut [u8]) -> Compiled
+fn attempt(source: &[u8], scratch: &mut [u32], text: &mut [u8]) -> Result<usize, Refusal>
     ensures { Translates source.now scratch.old scratch.new text.old text.new result }
 {
     if too_long(source) {
         clear_from(scratch, 0);
-        return Compiled::Refused(refuse(source, 1, 0));
+        return refused(source, Fault::SourceTooLong, 0);
     }
     if scratch_too_short(source, scratch) {
         clear_from(scratch, 0);
-        return Compiled::Refused(refuse(source, 15, 0));
+        return refused(source, Fault::RoomTooShort, 0);
     }
     in_part(source, scratch, text)
 }
 
 // A source's MINICODE text, or why there is none: document 01's refusals 1 to 16. Scratch is zeros after every call, and so is all of
 // `text` but an accepted source's text at its front.
-pub fn compile(source: &[u8], scratch: &mut [u32], text: &mut [u8]) -> Compiled
+pub fn compile(source: &[u8], scratch: &mut [u32], text: &mut [u8]) -> Result<usize, Refusal>
     ensures { Compiles source.now scratch.old scratch.new text.old text.new result }
 {
     match attempt(source, scratch, text) {
-        Compiled::Accepted(n) => {
+        Ok(n) => {
             clear_text(text, n);
-            Compiled::Accepted(n)
+            Ok(n)
         }
-        Compiled::Refused(why) => {
+        Err(refusal) => {
             clear_text(text, 0);
-            Compiled::Refused(why)
+            Err(refusal)
         }
     }
 }

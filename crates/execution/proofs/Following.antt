@@ -1,4 +1,5 @@
 -- From the contracts of `compile`, `load` and `run` to that of all three together.
+use Rattle.std.specs.Prelude.{Err, Ok, Result}
 use Rattle.laws.proofs.Basics.{ℕ, ◌-◌, ◌≤◌, ◌≡◌, refl, sym, ap, subst, ◌∙◌, List, ◌++◌, length, take, replicate, length-append, length-take-le, arith}
 use Rattle.laws.proofs.Cases.{contradiction}
 use lib.Seq.{take-append_seam}
@@ -15,8 +16,6 @@ use Rattle.language.specs.Whole.{strings_in}
 use Rattle.code.specs.Faithful.{placement_of, Follows}
 use Rattle.code.specs.Generate.{text_of}
 use Rattle.compiler.specs.Compiles.{decided, answer_of, text_after, Compiles}
-use Rattle.compiler.specs.declared.Compiled.{Compiled}
-use Rattle.compiler.specs.declared.Compiled.TheVariants as C
 use Rattle.execution.specs.declared.Executed.{Executed}
 use Rattle.execution.specs.declared.Executed.TheVariants as E
 use Rattle.execution.specs.Executes.{image, RanBy, RunsText, ExecutedBy, Delivers, Executes}
@@ -44,11 +43,11 @@ module _ {text memory memory₁ input output : List ℕ} {budget : ℕ} {a : Res
 
 -- ---- a source
 
-module _ {source scratch scratch' text text' : List ℕ} {a : Compiled} (c : Compiles source scratch scratch' text text' a) where
+module _ {source scratch scratch' text text' : List ℕ} {a : Result ℕ Refusal} (c : Compiles source scratch scratch' text text' a) where
   abbrev d : Refused
   d = decided source (length scratch) (length text)
 
-  pub source-refused : {memory input output : List ℕ} {budget : ℕ} {r : Refusal} → a ≡ C.Refused r
+  pub source-refused : {memory input output : List ℕ} {budget : ℕ} {r : Refusal} → a ≡ Err r
       → Executes source scratch scratch' text text' memory memory input output output budget (E.Uncompiled r)
   source-refused {memory} {input} {output} {budget} {r} e = record {
     clears = c.clears;
@@ -57,7 +56,7 @@ module _ {source scratch scratch' text text' : List ℕ} {a : Compiled} (c : Com
     delivers = λ ran q. contradiction cc;
   }
     where
-      go : (x : Refused) → C.Refused r ≡ answer_of source x → ExecutedBy source x memory memory input output output budget (E.Uncompiled r)
+      go : (x : Refused) → Err r ≡ answer_of source x → ExecutedBy source x memory memory input output output budget (E.Uncompiled r)
       go accepted q = contradiction cc
       go (refused number place) q = let z : r ≡ refusal source number place = cc in (ap E.Uncompiled z, refl, refl)
 
@@ -67,10 +66,10 @@ module _ {source scratch scratch' text text' : List ℕ} {a : Compiled} (c : Com
     pub fits : n ≤ length text'
     pub text-is : take n text' ≡ text_of source
 
-  pub front : {n : ℕ} → a ≡ C.Accepted n → Front n
+  pub front : {n : ℕ} → a ≡ Ok n → Front n
   front {n} e = go d refl (sym e ∙ c.answers) c.writes
     where
-      go : (x : Refused) → d ≡ x → C.Accepted n ≡ answer_of source x → text' ≡ text_after source (length text) x → Front n
+      go : (x : Refused) → d ≡ x → Ok n ≡ answer_of source x → text' ≡ text_after source (length text) x → Front n
       go (refused number place) k q w = contradiction cc
       go accepted k q w = let z : n ≡ length (text_of source) = cc in let zeros : List ℕ = replicate (length text - length (text_of source)) 0 in
           record {
@@ -79,13 +78,13 @@ module _ {source scratch scratch' text text' : List ℕ} {a : Compiled} (c : Com
             text-is = ap (take n) w ∙ (ap (λ (m : ℕ). take m (text_of source ++ zeros)) z ∙ take-append_seam (text_of source) zeros);
           }
 
-  pub text-fits : {n : ℕ} → a ≡ C.Accepted n → n ≤ length text'
+  pub text-fits : {n : ℕ} → a ≡ Ok n → n ≤ length text'
   text-fits e = (front e).fits
 
-  pub text-front : {n : ℕ} → a ≡ C.Accepted n → n ≡ length (take n text')
+  pub text-front : {n : ℕ} → a ≡ Ok n → n ≡ length (take n text')
   text-front {n} e = sym (length-take-le n text' (text-fits e))
 
-  module _ {n : ℕ} (e : a ≡ C.Accepted n) {memory memory' input output output' : List ℕ} {budget : ℕ} {x : Executed}
+  module _ {n : ℕ} (e : a ≡ Ok n) {memory memory' input output output' : List ℕ} {budget : ℕ} {x : Executed}
       (r : RunsText (take n text') memory memory' input output output' budget x) where
     runs : RunsText (text_of source) memory memory' input output output' budget x
     runs = subst (λ (t : List ℕ). RunsText t memory memory' input output output' budget x) (front e).text-is r

@@ -1,8 +1,11 @@
 -- The table of classes: each byte's entry is its class, as a digit.
 use Rattle.laws.proofs.Basics.{ℕ, ◌+◌, ◌-◌, ◌<◌, ◌≤◌, ◌≡◌, ◌∙◌, List, get_or, arith}
 use Rattle.language.specs.Bytes.{class_of}
-use Rattle.symbols.specs.Parts.{Classes}
 use Rattle.symbols.proofs.Table.{tabulate, tabulate-at}
+
+-- a list that holds each byte's class, as a digit
+pub record Classes (table : List ℕ) : Type 0 where
+  pub holds : (byte : ℕ) → byte < 256 → get_or table byte 0 ≡ 48 + class_of byte
 
 abbrev pub digit_for : ℕ → ℕ
 digit_for byte = 48 + class_of byte

@@ -1,14 +1,12 @@
 -- Numbers: their value, digit by digit, with 65,536 for all that are larger; and what is read by it.
 use Rattle.laws.proofs.Basics.{ℕ, suc, ◌+◌, ◌-◌, ◌*◌, ◌<◌, ◌≤◌, ◌≡◌, refl, sym, ap, ◌∙◌, List, [], ◌∷◌, Bool, true, false, ◌&&◌, ◌⊎◌, inl, inr}
-use Rattle.laws.proofs.Basics.{⊎_elim, length, get_or, drop, ltb, leb, arith, ltb-true, ltb-false, lt-ltb, le-ltb, leb-true, le-leb, lt-leb}
+use Rattle.laws.proofs.Basics.{⊎_elim, length, get_or, drop, ltb, leb, arith, ltb-true, ltb-false, leb-true, le-leb, lt-leb}
 use Rattle.laws.proofs.Cases.{by_cases, contradiction}
 use native.Mathlib.Nat.{mul-le-mul, le-mul_of_pos_right}
 use Rattle.symbols.proofs.Runs.{digits-run, Running, run-starts, run_ends, run-stops, run-goes-on}
 use Rattle.text.proofs.Bytes.{at_byte, past_end}
-use Rattle.language.specs.Symbols.{digit_of, digits, value_of, decimal, octal}
+use Rattle.language.specs.Symbols.{symbol, wrong, digit_of, digits, value_of, decimal, octal}
 use Rattle.symbols.specs.Parts.{capped}
-use Rattle.symbols.specs.Answers.{as_element}
-use Rattle.symbols.specs.declared.elements.Element.TheVariants as E
 
 -- ---- digits
 
@@ -25,12 +23,10 @@ digit-from base c e = by_cases (leb 48 c) (λ k. leb-true 48 c k)
 -- ---- large values
 
 pub capped-low : (n : ℕ) → n < 65536 → capped n ≡ n
-unfolding capped
-capped-low n h = rw (lt-ltb n 65536 h)
+capped-low n h = omega arith
 
 pub capped-high : (n : ℕ) → 65536 ≤ n → capped n ≡ 65536
-unfolding capped
-capped-high n h = rw (le-ltb n 65536 h)
+capped-high n h = omega arith
 
 either_side : (n : ℕ) → (n < 65536) ⊎ (65536 ≤ n)
 either_side n = by_cases (ltb n 65536) (λ e. inl (ltb-true n 65536 e)) (λ e. inr (ltb-false n 65536 e))
@@ -126,27 +122,27 @@ module _ {base : ℕ} {text : List ℕ} {at n i : ℕ} (s : Digits base text at 
 
 module _ (bs : List ℕ) where
   module _ {v : ℕ} (e : v ≡ capped (value_of 10 0 bs)) where
-    pub a-decimal : {n : ℕ} → n ≡ digits 10 bs → v ≤ 32767 → E.Symbol 60 v n ≡ as_element (decimal bs)
-    unfolding decimal as_element
+    pub a-decimal : {n : ℕ} → n ≡ digits 10 bs → v ≤ 32767 → symbol 60 v n ≡ decimal bs
+    unfolding decimal
     a-decimal d h = let k : value_of 10 0 bs ≡ v = uncapped _ e (omega arith) in rw (k, le-leb v 32767 h, ← d)
 
-    pub no-decimal : 32767 < v → E.Wrong 3 0 ≡ as_element (decimal bs)
-    unfolding decimal as_element
+    pub no-decimal : 32767 < v → wrong 3 0 ≡ decimal bs
+    unfolding decimal
     no-decimal h =
         let k : 32767 < value_of 10 0 bs = ⊎_elim (λ l. omega (arith, uncapped _ e l)) (λ l. omega (arith, uncapped-high _ e l)) (either_side v)
         in rw (lt-leb _ 32767 k)
 
   module _ {n : ℕ} (d : n ≡ digits 8 bs) where
-    pub no-digits : n < 1 → E.Wrong 3 0 ≡ as_element (octal bs)
-    unfolding octal as_element
+    pub no-digits : n < 1 → wrong 3 0 ≡ octal bs
+    unfolding octal
     no-digits h = rw (← d, lt-leb 1 n h)
 
     module _ (m : 1 ≤ n) {v : ℕ} (e : v ≡ capped (value_of 8 0 bs)) where
-      pub an-octal : v ≤ 65535 → E.Symbol 60 v (n + 1) ≡ as_element (octal bs)
-      unfolding octal as_element
+      pub an-octal : v ≤ 65535 → symbol 60 v (n + 1) ≡ octal bs
+      unfolding octal
       an-octal h = let k : value_of 8 0 bs ≡ v = uncapped _ e (omega arith) in let s : n + 1 ≡ suc n = omega arith in
           rw (k, ← d, le-leb 1 n m, le-leb v 65535 h, s)
 
-      pub no-octal : 65535 < v → E.Wrong 3 0 ≡ as_element (octal bs)
-      unfolding octal as_element
+      pub no-octal : 65535 < v → wrong 3 0 ≡ octal bs
+      unfolding octal
       no-octal h = let k : 65535 < value_of 8 0 bs = omega (arith, uncapped-high _ e (omega arith)) in rw (← d, le-leb 1 n m, lt-leb _ 65535 k)

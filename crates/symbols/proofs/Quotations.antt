@@ -1,15 +1,13 @@
 -- Characters and strings of the source, from what is read between their quotes.
-use Rattle.laws.proofs.Basics.{ℕ, suc, ◌+◌, ◌<◌, ◌≡◌, ◌∙◌, List, [], ◌∷◌, length, drop, length-drop, arith}
-use Rattle.std.specs.Prelude.{Some, None}
-use Rattle.laws.proofs.Cases.{contradiction}
+use Rattle.laws.proofs.Basics.{ℕ, suc, ◌+◌, ◌<◌, ◌≡◌, ap, ◌∙◌, List, [], ◌∷◌, length, drop, length-drop, arith}
+use Rattle.std.specs.Prelude.{Option, Some}
+use Rattle.std.specs.Option.{unwrap_or}
 use Rattle.text.specs.Quoted as Q
 use Rattle.text.specs.Quoted.{closed, unclosed, faulty, quoted}
 use Rattle.text.specs.Parts.{value_of}
 use Rattle.text.proofs.Quotes.{first-is, fault-within}
 use Rattle.text.proofs.Answers.{Counted}
-use Rattle.language.specs.Symbols.{character, string}
-use Rattle.symbols.specs.Answers.{as_element}
-use Rattle.symbols.specs.declared.elements.Element.TheVariants as E
+use Rattle.language.specs.Symbols.{symbol, wrong, character, string}
 
 module _ (text : List ℕ) (at : ℕ) where
   -- a fault is at a byte of the text
@@ -19,42 +17,44 @@ module _ (text : List ℕ) (at : ℕ) where
   -- ---- one character between single quotes
 
   module _ {n w : ℕ} (h : Counted (quoted 39 1 0 (drop at text)) n w) where
-    pub no-character : None ≡ value_of (Q.character 39 (drop at text)) → E.Wrong 43 0 ≡ as_element (character (drop at text))
-    unfolding character as_element
-    no-character f = by h.characters h.is
+    pub no-character : n ≡ 0 → wrong 43 0 ≡ character (drop at text)
+    unfolding character
+    no-character z = by h.characters h.is h.count
       where
-        by : (cs : List ℕ) → quoted 39 1 0 (drop at text) ≡ closed cs w → E.Wrong 43 0 ≡ as_element (character (drop at text))
-        by [] e = rw e
-        by (c ∷ cs) e = let z : None ≡ Some c = f ∙ first-is 39 1 (drop at text) e in contradiction cc
+        by : (cs : List ℕ) → quoted 39 1 0 (drop at text) ≡ closed cs w → n ≡ length cs → wrong 43 0 ≡ character (drop at text)
+        by [] e k = rw e
+        by (c ∷ cs) e k = absurd (omega arith)
 
-    pub a-character : {v : ℕ} → Some v ≡ value_of (Q.character 39 (drop at text)) → E.Symbol 60 v (w + 1) ≡ as_element (character (drop at text))
-    unfolding character as_element
-    a-character {v} f = by h.characters h.is
+    pub a-character : {v : ℕ} {r : Option ℕ} → (n ≡ 0 → ⊥) → r ≡ value_of (Q.character 39 (drop at text)) → v ≡ unwrap_or r 0
+        → symbol 60 v (w + 1) ≡ character (drop at text)
+    unfolding character
+    a-character {v} {r} some f u = by h.characters h.is h.count
       where
-        by : (cs : List ℕ) → quoted 39 1 0 (drop at text) ≡ closed cs w → E.Symbol 60 v (w + 1) ≡ as_element (character (drop at text))
-        by [] e = let z : Some v ≡ None = f ∙ first-is 39 1 (drop at text) e in contradiction cc
-        by (c ∷ cs) e = let z : Some v ≡ Some c = f ∙ first-is 39 1 (drop at text) e in let m : w + 1 ≡ suc w = omega arith in rw (e, m) cc
+        by : (cs : List ℕ) → quoted 39 1 0 (drop at text) ≡ closed cs w → n ≡ length cs → symbol 60 v (w + 1) ≡ character (drop at text)
+        by [] e k = absurd (some k)
+        by (c ∷ cs) e k = let q : r ≡ Some c = f ∙ first-is 39 1 (drop at text) e in let z : v ≡ c = u ∙ ap (λ (o : Option ℕ). unwrap_or o 0) q in
+            let m : w + 1 ≡ suc w = omega arith in rw (e, z, m)
 
-  pub character-unclosed : quoted 39 1 0 (drop at text) ≡ unclosed → E.Wrong 40 0 ≡ as_element (character (drop at text))
-  unfolding character as_element
+  pub character-unclosed : quoted 39 1 0 (drop at text) ≡ unclosed → wrong 40 0 ≡ character (drop at text)
+  unfolding character
   character-unclosed e = rw e
 
   pub character-faulty : {number offset : ℕ} → quoted 39 1 0 (drop at text) ≡ faulty number offset
-      → E.Wrong number (offset + 1) ≡ as_element (character (drop at text))
-  unfolding character as_element
+      → wrong number (offset + 1) ≡ character (drop at text)
+  unfolding character
   character-faulty {offset = offset} e = let m : offset + 1 ≡ suc offset = omega arith in rw (e, m)
 
   -- ---- a string
 
-  pub a-string : {n w : ℕ} → Counted (quoted 34 255 0 (drop at text)) n w → E.Symbol 61 n (w + 1) ≡ as_element (string (drop at text))
-  unfolding string as_element
+  pub a-string : {n w : ℕ} → Counted (quoted 34 255 0 (drop at text)) n w → symbol 61 n (w + 1) ≡ string (drop at text)
+  unfolding string
   a-string {n} {w} h = let m : w + 1 ≡ suc w = omega arith in rw (h.is, h.count, m)
 
-  pub string-unclosed : quoted 34 255 0 (drop at text) ≡ unclosed → E.Wrong 40 0 ≡ as_element (string (drop at text))
-  unfolding string as_element
+  pub string-unclosed : quoted 34 255 0 (drop at text) ≡ unclosed → wrong 40 0 ≡ string (drop at text)
+  unfolding string
   string-unclosed e = rw e
 
   pub string-faulty : {number offset : ℕ} → quoted 34 255 0 (drop at text) ≡ faulty number offset
-      → E.Wrong number (offset + 1) ≡ as_element (string (drop at text))
-  unfolding string as_element
+      → wrong number (offset + 1) ≡ string (drop at text)
+  unfolding string
   string-faulty {offset = offset} e = let m : offset + 1 ≡ suc offset = omega arith in rw (e, m)

@@ -1,6 +1,10 @@
 -- Runs of bytes that pass a test: the letters of a word, the digits of a number, the bytes of a comment.
 use Rattle.laws.proofs.Basics.{ℕ, suc, ◌+◌, ◌-◌, ◌<◌, ◌≤◌, ◌≡◌, refl, sym, ap, ◌∙◌, List, [], ◌∷◌, Bool, true, false, not, cond, length, get_or, take}
-use Rattle.laws.proofs.Basics.{drop, eqb, arith, ne_eqb}
+use Rattle.laws.proofs.Basics.{drop, eqb, ltb, arith, ne_eqb, ltb-false}
+use Rattle.std.specs.Prelude.{Some, None}
+use Rattle.std.specs.List.{position, position_or_len}
+use Rattle.std.specs.Option.{unwrap_or}
+use Rattle.std.proofs.lemmas.List.Recursion.{is_position_or_len}
 use Rattle.laws.proofs.Cases.{by_cases, by_equal, by_cond, contradiction}
 use Rattle.text.specs.Line.{newlines}
 use Rattle.text.proofs.Bytes.{at_byte, past_end}
@@ -61,6 +65,14 @@ module _ {p : ℕ → Bool} {f : List ℕ → ℕ} (run : Run p f) where
   run-within [] = omega (arith, run.none)
   run-within (c ∷ r) = rw (run.some c r) (by_cond (λ n. n ≤ suc (length r)) (p c) (omega (arith, run-within r)) (omega arith))
 
+  -- the place of the first byte that fails the test, and the length where none does
+  pub run-position : (bytes : List ℕ) → unwrap_or (position (λ c. not (p c)) bytes) (length bytes) ≡ f bytes
+  run-position bytes = let e : f bytes ≡ position_or_len (λ c. not (p c)) bytes = is_position_or_len f (λ c. not (p c)) run.none step bytes in
+      rw (← e) (by_cases (ltb (f bytes) (length bytes)) (λ t. rw t) (λ t. rw t (omega (arith, run-within bytes, ltb-false _ _ t))))
+    where
+      step : (c : ℕ) (r : List ℕ) → f (c ∷ r) ≡ cond (not (p c)) 0 (1 + f r)
+      step c r = run.some c r ∙ by_cases (p c) (λ t. rw t (omega arith)) (λ t. rw t)
+
   -- a run of bytes other than a newline is on one line
   pub run-line : p 10 ≡ false → (bytes : List ℕ) → newlines (take (f bytes) bytes) ≡ 0
   unfolding newlines
@@ -68,3 +80,11 @@ module _ {p : ℕ → Bool} {f : List ℕ → ℕ} (run : Run p f) where
   run-line out (c ∷ r) =
       rw (run.some c r) (by_cases (p c) (λ e. rw e (by_equal c 10 (λ z. let y : false ≡ true = sym out ∙ ap p (sym z) ∙ e in contradiction cc)
       (λ k. rw (ne_eqb c 10 k) (run-line out r)))) (λ e. rw e refl))
+
+-- a comment's end is its newline
+pub comment-end : (bytes : List ℕ) → unwrap_or (position (λ c. eqb c 10) bytes) (length bytes) ≡ to_line_end bytes
+comment-end bytes = ap (λ (n : ℕ). unwrap_or (cond (ltb n (length bytes)) (Some n) None) (length bytes)) (ends bytes) ∙ run-position comment-run bytes
+  where
+    ends : (bytes : List ℕ) → position_or_len (λ c. eqb c 10) bytes ≡ position_or_len (λ c. not (in_comment c)) bytes
+    ends [] = refl
+    ends (c ∷ r) = by_cases (eqb c 10) (λ e. rw e) (λ e. rw (e, ends r))

@@ -3,38 +3,19 @@ use Rattle.laws.proofs.Basics.{ℕ, zero, suc, ◌+◌, ◌-◌, ◌<◌, ◌≤
 use Rattle.laws.proofs.Basics.{get_or, take, drop, length-drop, drop_of_length-le, drop-cons, drop-drop, eqb, add-zero, add-one, arith, eq-eqb}
 use Rattle.laws.proofs.Basics.{ne_eqb}
 use Rattle.laws.proofs.Basics.{add-shift}
-use Rattle.laws.proofs.Cases.{by_cases, contradiction}
+use Rattle.laws.proofs.Cases.{by_cases}
 use lib.Seq.{take-add}
 use Rattle.text.specs.Line.{newlines, line_of}
 use Rattle.language.specs.Bytes.{class_of}
 use Rattle.language.specs.Symbols.{Element, symbol, gap, wrong, by_class, none, fault, Scan, ends, goes_on, on_element, scan_from}
-use Rattle.symbols.specs.Answers.{as_element}
-use Rattle.symbols.specs.Parts.{or_newline, broken, symbol_of, scan_by, Found, IfOne, Finds}
-use Rattle.symbols.specs.declared.elements.Element as C
-use Rattle.symbols.specs.declared.elements.Element.TheVariants as E
-use Rattle.symbols.specs.declared.Next.{Next}
-use Rattle.symbols.specs.declared.Next.TheVariants as N
+use Rattle.std.specs.Prelude.{Some, None, Ok, Err}
+use Rattle.text.specs.Faults as F
+use Rattle.symbols.specs.Kinds.{number_of}
+use Rattle.symbols.specs.Parts.{broken, symbol_of, scan_by, Next, Stands, IfOne, Finds}
+use Rattle.symbols.specs.declared.kinds.Kind.{Kind}
+use Rattle.symbols.specs.declared.Found.{Found}
+use Rattle.symbols.specs.declared.Faulty.{Faulty}
 use Rattle.symbols.proofs.Lines.{Stood, Given, element-given}
-
--- ---- from the code's answer back to the element
-
-pub when-symbol : (e : Element) {r : C.Element} {k v w : ℕ} → r ≡ as_element e → r ≡ E.Symbol k v w → e ≡ symbol k v w
-unfolding as_element
-when-symbol (symbol a b c) p q = cc
-when-symbol (gap a) p q = contradiction cc
-when-symbol (wrong a b) p q = contradiction cc
-
-pub when-gap : (e : Element) {r : C.Element} {w : ℕ} → r ≡ as_element e → r ≡ E.Gap w → e ≡ gap w
-unfolding as_element
-when-gap (symbol a b c) p q = contradiction cc
-when-gap (gap a) p q = cc
-when-gap (wrong a b) p q = contradiction cc
-
-pub when-wrong : (e : Element) {r : C.Element} {n k : ℕ} → r ≡ as_element e → r ≡ E.Wrong n k → e ≡ wrong n k
-unfolding as_element
-when-wrong (symbol a b c) p q = contradiction cc
-when-wrong (gap a) p q = contradiction cc
-when-wrong (wrong a b) p q = cc
 
 -- ---- lines
 
@@ -126,42 +107,52 @@ pub seek-start : (text : List ℕ) (at : ℕ) → at ≤ length text → Seeking
 seek-start text at h = record { after = omega arith; within = h; scans = refl; breaks = sym (ap not (eq-eqb (line_of text at) (line_of text at) refl)) }
 
 module _ (text : List ℕ) (at i : ℕ) {newline : Bool} (s : Seeking text at i newline) where
-  pub seek-end : length text ≤ i → Finds text at N.End
+  pub seek-end : length text ≤ i → Finds text at (Ok None)
   unfolding scan_by IfOne
   seek-end h = record { scans = s.scans ∙ scan-end text i h; found = tt }
 
   module _ (h : i < length text) where
-    pub seek-wrong : {n k : ℕ} → element_at text i ≡ wrong n k → Finds text at (N.Wrong n (i + k))
+    pub seek-wrong : {e : Faulty} {k : ℕ} → wrong (F.number_of e.fault) k ≡ element_at text i → e.place ≡ i + k → Finds text at (Err e)
     unfolding scan_by IfOne
-    seek-wrong e = record { scans = s.scans ∙ scan-wrong text i h e; found = tt }
+    seek-wrong e q = record { scans = s.scans ∙ scan-wrong text i h (sym e) ∙ rw q; found = tt }
 
-    pub seek-symbol : {k v w : ℕ} → element_at text i ≡ symbol k v w → Finds text at (N.One k v i (i + w) newline)
+    pub seek-symbol : {k : Kind} {v w : ℕ} → symbol (number_of k) v w ≡ element_at text i
+        → Finds text at (Ok (Some (record { kind = k; value = v; place = i; past = i + w; newline = newline })))
     unfolding scan_by IfOne
-    seek-symbol {k} {v} {w} e = let g : Stood (drop i text) 0 w × (k < 62) × (v ≤ 65535 + w) = symbol-given text i h e in record {
-      scans = s.scans ∙ scan-symbol text i h e;
-      found = record {
-        after = s.after;
-        some = omega (arith, g.0.some);
-        within = symbol-inside text i h e;
-        known = g.1;
-        small = omega (arith, g.2);
-        breaks = s.breaks;
-        line = symbol-line text i h e;
-      };
-    }
+    seek-symbol {k} {v} {w} q = let e : element_at text i ≡ symbol (number_of k) v w = sym q in
+        let g : Stood (drop i text) 0 w × (number_of k < 62) × (v ≤ 65535 + w) = symbol-given text i h e in record {
+          scans = s.scans ∙ scan-symbol text i h e;
+          found = record {
+            after = s.after;
+            some = omega (arith, g.0.some);
+            within = symbol-inside text i h e;
+            small = omega (arith, g.2);
+            breaks = s.breaks;
+            line = symbol-line text i h e;
+          };
+        }
 
-    module _ {w : ℕ} (e : element_at text i ≡ gap w) where
+    module _ {w : ℕ} (q : gap w ≡ element_at text i) where
+      e : element_at text i ≡ gap w
+      e = sym q
+
       pub gap-inside : (1 ≤ w) × (i + w ≤ length text)
       gap-inside = let g : Stood (drop i text) _ w = gap-given text i h e in (g.some, omega (arith, g.within, length-drop i text))
 
-      pub seek-gap : Seeking text at (i + w) (or_newline newline (get_or text i 0))
+      pub seek-gap : Seeking text at (i + w) (cond newline true (eqb (get_or text i 0) 10))
       seek-gap = record {
         after = omega (arith, s.after);
         within = gap-inside.1;
         scans = s.scans ∙ scan-gap text i h e;
-        breaks = by (eqb (get_or text i 0) 10) (gap-given text i h e).line;
+        breaks = swapped newline (eqb (get_or text i 0) 10) ∙ by (eqb (get_or text i 0) 10) (gap-given text i h e).line;
       }
         where
+          swapped : (a b : Bool) → cond a true b ≡ cond b true a
+          swapped true true = refl
+          swapped true false = refl
+          swapped false true = refl
+          swapped false false = refl
+
           by : (t : Bool) → newlines (take w (drop i text)) ≡ cond t 1 0 → cond t true newline ≡ broken text at (i + w)
           by true k =
               sym (ap not (ne_eqb (line_of text at) (line_of text (i + w)) (λ j. omega (arith, line-past text i w, line_after text at i s.after))))
@@ -172,17 +163,10 @@ module _ (text : List ℕ) (at i : ℕ) {newline : Bool} (s : Seeking text at i 
 pub scan-is : {text : List ℕ} {at : ℕ} {next n : Next} → Finds text at next → next ≡ n → scan_at text at ≡ scan_by text n
 scan-is {text} f e = f.scans ∙ ap (scan_by text) e
 
-module _ {text : List ℕ} {at kind value place past : ℕ} {newline : Bool} {next : Next}
-    (f : Finds text at next) (e : next ≡ N.One kind value place past newline) where
-  pub found : Found text at kind value place past newline
+module _ {text : List ℕ} {at : ℕ} {one : Found} {next : Next} (f : Finds text at next) (e : next ≡ Ok (Some one)) where
+  pub found : Stands text at one
   unfolding IfOne
   found = rw e at f.found
 
-  pub kind-known : kind < 62
-  kind-known = found.known
-
-  pub kind_fits : kind < 65536
-  kind_fits = omega (arith, kind-known)
-
-  pub nearer-end : length text - past < length text - at
+  pub nearer-end : length text - one.past < length text - at
   nearer-end = omega (arith, found.after, found.some, found.within)

@@ -7,9 +7,10 @@ use Rattle.language.specs.Symbols.{Symbol, Scan, scan}
 use Rattle.language.specs.Semicolons.{inserted, semicolons_after}
 use Rattle.language.specs.Strings.{numbered}
 use Rattle.symbols.specs.Read.{entries}
-use Rattle.symbols.specs.Parts.{symbol_of, scan_by, Finds, gain, Writes}
-use Rattle.symbols.specs.declared.Next.{Next}
-use Rattle.symbols.specs.declared.Next.TheVariants as N
+use Rattle.std.specs.Prelude.{Some, None, Ok}
+use Rattle.symbols.specs.Kinds.{number_of}
+use Rattle.symbols.specs.Parts.{symbol_of, scan_by, Next, Finds, gain, Writes}
+use Rattle.symbols.specs.declared.Found.{Found}
 use Rattle.symbols.proofs.Scanning.{scan_at, scan-is, found}
 use Rattle.symbols.proofs.Semicolons.{symbols_in, following, first-after, following-symbol, few}
 
@@ -83,7 +84,6 @@ pub record Putting (text s₀ : List ℕ) (at count before strings : ℕ) (s : L
   pub room : length text * 3 ≤ length s₀
   pub fits : count * 3 ≤ length s
   pub strings-few : strings ≤ count
-  pub known : before < 62
   pub writes : take (count * 3) s ++ rest text at before strings ≡ entries (symbols_in text)
 
 pub putting-start : (text s : List ℕ) → length text * 3 ≤ length s → Putting text s 0 0 0 0 s
@@ -93,7 +93,6 @@ putting-start text s h = record {
   room = h;
   fits = omega arith;
   strings-few = omega arith;
-  known = omega arith;
   writes = ap entries (sym (first-after text 0 (numbered 0 (scan text).symbols)));
 }
 
@@ -107,12 +106,27 @@ module _ (text s₀ : List ℕ) (at count before strings : ℕ) (s : List ℕ) (
   taken : length (take (count * 3) s) ≡ count * 3
   taken = length-take-le (count * 3) s p.fits
 
-  pub putting-end : next ≡ N.End → take (count * 3) s ≡ entries (symbols_in text)
+  pub putting-end : next ≡ Ok None → take (count * 3) s ≡ entries (symbols_in text)
   unfolding scan_by entries numbered semicolons_after
   putting-end e = sym (append-nil (take (count * 3) s)) ∙
       ap (λ (t : Scan). take (count * 3) s ++ entries (following text before at strings t.symbols)) (sym (scan-is f e)) ∙ p.writes
 
-  module _ {kind value place past : ℕ} {newline : Bool} (e : next ≡ N.One kind value place past newline) where
+  module _ {one : Found} (e : next ≡ Ok (Some one)) where
+    abbrev kind : ℕ
+    kind = number_of one.kind
+
+    abbrev value : ℕ
+    value = one.value
+
+    abbrev place : ℕ
+    place = one.place
+
+    abbrev past : ℕ
+    past = one.past
+
+    abbrev newline : Bool
+    newline = one.newline
+
     module _ {semicolon : Bool} (g : semicolon ≡ gain before kind newline) where
       -- the rest, from this symbol on
       next-entries : {number strings' : ℕ} → number ≡ cond (eqb kind 61) strings value → strings' ≡ cond (eqb kind 61) (strings + 1) strings
@@ -153,7 +167,6 @@ module _ (text s₀ : List ℕ) (at count before strings : ℕ) (s : List ℕ) (
             thrice semicolon,
             by_cond (λ k. k ≤ strings + 1) (eqb kind 61) {x = strings + 1} {y = strings} (omega arith) (omega arith),
           );
-          known = (found f e).known;
           writes = ap (λ (l : List ℕ). l ++ rest text past kind strings') w.writes ∙ append_assoc (take (count * 3) s) _ _ ∙
               ap (λ (l : List ℕ). take (count * 3) s ++ l) (sym (next-entries m n)) ∙ p.writes;
         }

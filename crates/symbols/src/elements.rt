@@ -1,23 +1,40 @@
 // What stands at a place of a text: a symbol, a gap, or neither. One function for each part of document 01's "Symbols".
-ghost use Rattle.std.specs.Prelude.{◌+◌, ◌-◌, ◌*◌, ◌<◌, ◌≤◌, ◌≡◌, length, get_or, drop};
+ghost use Rattle.std.specs.Prelude.{◌+◌, ◌-◌, ◌*◌, ◌<◌, ◌≤◌, ◌≡◌, ◌==◌, not, position, length, get_or, drop};
 ghost use Rattle.language.specs.Bytes.{class_of};
-ghost use Rattle.language.specs.Symbols.{in_word, word_width, word, digit_of, digits, value_of, decimal, octal, character, string, to_line_end, comment};
+ghost use Rattle.language.specs.Symbols.{in_word, word, digit_of, digits, value_of, decimal, octal, character, string};
 ghost use Rattle.language.specs.Symbols.{sign_or_comment, by_class};
-ghost use Rattle.symbols.specs.Answers.{as_element};
-ghost use Rattle.symbols.specs.Parts.{capped, slashes, Classes};
-ghost use Rattle.symbols.specs.Spellings.{Rows};
+ghost use Rattle.language.specs.Symbols as S;
+ghost use Rattle.text.specs.Faults.{number_of};
+ghost use Rattle.symbols.specs.Answers.{element_of};
+ghost use Rattle.symbols.specs.Parts.{capped};
 
-use crate::kinds::{NUMBER, STRING};
+use crate::kinds::Kind;
 use crate::spellings;
 use text::{Fault, Flaw};
 
-// A symbol's kind, its value and the number of bytes that write it; the bytes of a gap; or a refusal's number, and the number of bytes before the
-// one that is wrong.
+// A symbol with its value and the number of bytes that write it; or the bytes of a gap.
 #[derive(Drop)]
 pub(crate) enum Element {
-    Symbol(usize, usize, usize),
+    Symbol {
+        kind: Kind,
+        value: usize,
+        width: usize,
+    },
     Gap(usize),
-    Wrong(u16, usize),
+}
+
+// A fault, and the number of bytes before the one that is wrong.
+#[derive(Drop)]
+pub(crate) struct Wrong {
+    pub fault: Fault,
+    pub offset: usize,
+}
+
+// A fault of the first byte.
+pub(crate) fn refused_here(fault: Fault) -> Result<Element, Wrong>
+    ensures { element_of result ≡ S.wrong (number_of fault) 0 }
+{
+    Err(Wrong { fault, offset: 0 })
 }
 
 // How many digits stand at a place, and their value; 65,536 stands for all that are larger.
@@ -46,8 +63,8 @@ const SEPARATOR: u8 = 8;
 
 const NEWLINE: u8 = 9;
 
-// The class of each byte, as a digit. `read_symbols` makes the table and lends it.
-const CLASSES: [u8; 256] = *b"00000000089008000000000000000000\
+// The class of each byte, as a digit.
+static CLASSES: [u8; 256] = *b"00000000089008000000000000000000\
     87647075777777372222222222777770\
     71111111111111111111111111100000\
     00000000000000000000000000007070\
@@ -56,68 +73,44 @@ const CLASSES: [u8; 256] = *b"00000000089008000000000000000000\
     00000000000000000000000000000000\
     00000000000000000000000000000000";
 
-pub(crate) fn wide(byte: u8) -> usize
-    ensures { (result ≡ byte) × (result < 256) }
-{
-    byte as usize
-}
-
-pub(crate) fn all_classes() -> [u8; 256]
-    ensures { Classes result }
-{
-    CLASSES
-}
-
-fn class_of(classes: &[u8; 256], byte: u8) -> u8
-    requires { Classes classes.now }
+fn class_of(byte: u8) -> u8
     ensures { result ≡ class_of byte }
 {
-    classes[byte as usize] - b'0'
+    CLASSES[byte as usize] - b'0'
 }
 
 // Whether a byte may stand in a word: a capital, a digit or a dot.
-fn in_word(classes: &[u8; 256], byte: u8) -> bool
-    requires { Classes classes.now }
+fn in_word(byte: u8) -> bool
     ensures { result ≡ in_word (class_of byte) }
 {
-    let class = class_of(classes, byte);
-    if class < LETTER {
-        return false;
-    }
-    class <= DOT
+    (LETTER..=DOT).contains(&class_of(byte))
 }
 
-fn word_width(classes: &[u8; 256], text: &[u8], at: usize) -> usize
-    requires { Classes classes.now }
-    ensures { result ≡ word_width (drop at text.now) }
+// The place of the first byte that stands in no word.
+fn word_end(bytes: &[u8]) -> Option<usize>
+    ensures { result ≡ position (λ c. not (in_word (class_of c))) bytes.now }
 {
-    let mut i = at;
-    while i < text.len() {
-        if !in_word(classes, text[i]) {
-            return i - at;
-        }
-        i += 1;
-    }
-    i - at
+    bytes.iter().position(|c| !in_word(*c))
 }
 
-fn word_at(classes: &[u8; 256], table: &[u8; 767], text: &[u8], at: usize) -> Element
-    requires { (at ≤ length text.now) × Classes classes.now × Rows table.now }
-    ensures { result ≡ as_element (word (drop at text.now)) }
+// The word at the head.
+fn word_at(bytes: &[u8]) -> Result<Element, Wrong>
+    ensures { element_of result ≡ word bytes.now }
 {
-    let width = word_width(classes, text, at);
-    let found = spellings::kind_of(table, text, at, width);
-    Element::Symbol(found.kind, width, width)
+    let width = word_end(bytes).unwrap_or(bytes.len());
+    let kind = spellings::kind_of(&bytes[..width]).kind;
+    Ok(Element::Symbol {
+        kind,
+        value: width,
+        width,
+    })
 }
 
 fn is_digit(base: usize, c: usize) -> bool
     requires { base ≤ 10 }
     ensures { result ≡ digit_of base c }
 {
-    if c < 48 {
-        return false;
-    }
-    c < 48 + base
+    48 <= c && c < 48 + base
 }
 
 // A number of one digit more.
@@ -125,137 +118,139 @@ fn and_digit(base: usize, n: usize, c: usize) -> usize
     requires { (base ≤ 10) × (n ≤ 65536) × (48 ≤ c) × (c < 256) }
     ensures { result ≡ capped (n * base + (c - 48)) }
 {
-    let more = n * base + (c - 48);
-    if more < 65536 {
-        return more;
-    }
-    65536
+    (n * base + (c - 48)).min(65536)
 }
 
 fn digits_at(text: &[u8], at: usize, base: usize) -> Digits
     requires { (1 ≤ base) × (base ≤ 10) }
     ensures { (result.count ≡ digits base (drop at text.now)) × (result.value ≡ capped (value_of base 0 (drop at text.now))) }
 {
-    let mut n: usize = 0;
+    let mut value: usize = 0;
     let mut i = at;
     while i < text.len() {
-        let c = wide(text[i]);
+        let c = usize::from(text[i]);
         if !is_digit(base, c) {
             return Digits {
                 count: i - at,
-                value: n,
+                value,
             };
         }
-        n = and_digit(base, n, c);
+        value = and_digit(base, value, c);
         i += 1;
     }
     Digits {
         count: i - at,
-        value: n,
+        value,
     }
 }
 
-fn decimal_at(text: &[u8], at: usize) -> Element
-    ensures { result ≡ as_element (decimal (drop at text.now)) }
+fn decimal_at(text: &[u8], at: usize) -> Result<Element, Wrong>
+    ensures { element_of result ≡ decimal (drop at text.now) }
 {
     let number = digits_at(text, at, 10);
-    if number.value <= 32767 {
-        return Element::Symbol(NUMBER, number.value, number.count);
+    if number.value > 32767 {
+        return refused_here(Fault::Number);
     }
-    Element::Wrong(3, 0)
+    Ok(Element::Symbol {
+        kind: Kind::Number,
+        value: number.value,
+        width: number.count,
+    })
 }
 
 // What follows #.
-fn octal_at(text: &[u8], at: usize) -> Element
-    ensures { result ≡ as_element (octal (drop at text.now)) }
+fn octal_at(text: &[u8], at: usize) -> Result<Element, Wrong>
+    ensures { element_of result ≡ octal (drop at text.now) }
 {
     let number = digits_at(text, at, 8);
     if number.count < 1 {
-        return Element::Wrong(3, 0);
+        return refused_here(Fault::Number);
     }
     if number.value <= 65535 {
-        return Element::Symbol(NUMBER, number.value, number.count + 1);
+        return Ok(Element::Symbol {
+            kind: Kind::Number,
+            value: number.value,
+            width: number.count + 1,
+        });
     }
-    Element::Wrong(3, 0)
+    refused_here(Fault::Number)
 }
 
 // What follows a single quote.
-fn character_at(text: &[u8], at: usize) -> Element
-    ensures { result ≡ as_element (character (drop at text.now)) }
+fn character_at(text: &[u8], at: usize) -> Result<Element, Wrong>
+    ensures { element_of result ≡ character (drop at text.now) }
 {
     match text::quoted_at(text, at, b'\'', 1) {
-        Ok(closed) => match text::value_at(text, at, b'\'') {
-            Some(value) => Element::Symbol(NUMBER, wide(value), closed.width + 1),
-            None => Element::Wrong(Fault::QuotedLength.number(), 0),
-        },
-        Err(Flaw::Unclosed) => Element::Wrong(Fault::Unclosed.number(), 0),
-        Err(Flaw::Faulty { fault, offset }) => Element::Wrong(fault.number(), offset + 1),
+        Ok(constant) => {
+            if constant.characters == 0 {
+                return refused_here(Fault::QuotedLength);
+            }
+            let value = text::value_at(text, at, b'\'').unwrap_or(0);
+            Ok(Element::Symbol {
+                kind: Kind::Number,
+                value: usize::from(value),
+                width: constant.width + 1,
+            })
+        }
+        Err(Flaw::Unclosed) => refused_here(Fault::Unclosed),
+        Err(Flaw::Faulty { fault, offset }) => Err(Wrong {
+            fault,
+            offset: offset + 1,
+        }),
     }
 }
 
 // What follows a double quote.
-fn string_at(text: &[u8], at: usize) -> Element
-    ensures { result ≡ as_element (string (drop at text.now)) }
+fn string_at(text: &[u8], at: usize) -> Result<Element, Wrong>
+    ensures { element_of result ≡ string (drop at text.now) }
 {
     match text::quoted_at(text, at, b'"', 255) {
-        Ok(closed) => Element::Symbol(STRING, closed.characters, closed.width + 1),
-        Err(Flaw::Unclosed) => Element::Wrong(Fault::Unclosed.number(), 0),
-        Err(Flaw::Faulty { fault, offset }) => Element::Wrong(fault.number(), offset + 1),
+        Ok(constant) => Ok(Element::Symbol {
+            kind: Kind::String,
+            value: constant.characters,
+            width: constant.width + 1,
+        }),
+        Err(Flaw::Unclosed) => refused_here(Fault::Unclosed),
+        Err(Flaw::Faulty { fault, offset }) => Err(Wrong {
+            fault,
+            offset: offset + 1,
+        }),
     }
 }
 
-fn comment_at(text: &[u8], at: usize) -> Element
-    ensures { result ≡ as_element (comment (drop at text.now)) }
+// The place of the first newline.
+fn line_end(bytes: &[u8]) -> Option<usize>
+    ensures { result ≡ position (λ c. c == 10) bytes.now }
 {
-    let mut i = at;
-    while i < text.len() {
-        if text[i] == b'\n' {
-            return Element::Gap(i - at);
-        }
-        i += 1;
-    }
-    Element::Gap(i - at)
+    bytes.iter().position(|c| *c == b'\n')
 }
 
-// Whether two slashes stand at a place.
-fn begins_comment(text: &[u8], at: usize) -> bool
-    requires { at < length text.now }
-    ensures { result ≡ slashes (drop at text.now) }
+fn sign_or_comment(bytes: &[u8]) -> Result<Element, Wrong>
+    requires { 0 < length bytes.now }
+    ensures { element_of result ≡ sign_or_comment bytes.now }
 {
-    if text[at] != b'/' {
-        return false;
+    if bytes.starts_with(b"//") {
+        let width = line_end(bytes).unwrap_or(bytes.len());
+        return Ok(Element::Gap(width));
     }
-    if text.len() <= at + 1 {
-        return false;
-    }
-    text[at + 1] == b'/'
-}
-
-fn sign_or_comment(table: &[u8; 767], text: &[u8], at: usize) -> Element
-    requires { (at < length text.now) × Rows table.now }
-    ensures { result ≡ as_element (sign_or_comment (drop at text.now)) }
-{
-    if begins_comment(text, at) {
-        return comment_at(text, at);
-    }
-    spellings::sign_at(table, text, at)
+    spellings::sign_at(bytes)
 }
 
 // By the class of the byte there.
-pub(crate) fn element_at(classes: &[u8; 256], table: &[u8; 767], text: &[u8], at: usize) -> Element
-    requires { (at < length text.now) × Classes classes.now × Rows table.now }
-    ensures { result ≡ as_element (by_class (class_of (get_or text.now at 0)) (drop at text.now)) }
+pub(crate) fn element_at(text: &[u8], at: usize) -> Result<Element, Wrong>
+    requires { at < length text.now }
+    ensures { element_of result ≡ by_class (class_of (get_or text.now at 0)) (drop at text.now) }
 {
-    let class = class_of(classes, text[at]);
+    let class = class_of(text[at]);
     match class {
-        LETTER => word_at(classes, table, text, at),
+        LETTER => word_at(&text[at..]),
         DIGIT => decimal_at(text, at),
         HASH => octal_at(text, at + 1),
         QUOTE => character_at(text, at + 1),
         DOUBLE => string_at(text, at + 1),
-        SIGN => sign_or_comment(table, text, at),
-        SEPARATOR => Element::Gap(1),
-        NEWLINE => Element::Gap(1),
-        _ => Element::Wrong(2, 0),
+        SIGN => sign_or_comment(&text[at..]),
+        SEPARATOR => Ok(Element::Gap(1)),
+        NEWLINE => Ok(Element::Gap(1)),
+        _ => refused_here(Fault::NoSymbol),
     }
 }

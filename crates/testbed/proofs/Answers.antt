@@ -1,4 +1,5 @@
 -- From the library's answers to the exported numbers.
+use Rattle.std.specs.Prelude.{Err, Ok, Result}
 use Rattle.laws.proofs.Basics.{ℕ, ◌≡◌, refl, sym, ap, subst, ◌∙◌, List, [], ◌∷◌, length}
 use Rattle.assembler.specs.Assemble as A
 use Rattle.assembler.specs.Assemble.{Assembles, assembled}
@@ -21,8 +22,7 @@ use Rattle.testbed.specs.Exported.{flag_of, ran_numbers, tree_numbers, compiled_
 use Rattle.text.specs.Line.{refusal}
 use Rattle.language.specs.Program.{Refused, accepted, refused}
 use Rattle.compiler.specs.Compiles.{decided, answer_of, Compiles}
-use Rattle.compiler.specs.declared.Compiled.{Compiled}
-use Rattle.compiler.specs.declared.Compiled.TheVariants as C
+use Rattle.text.specs.declared.Refusal.{Refusal}
 
 -- a run's numbers, with a flag made of whether anything was stored
 abbrev told_numbers : Ran → ℕ → List ℕ
@@ -85,16 +85,16 @@ pub symbol-refused : {text scratch : List ℕ} {answer : SymbolsRead} {number pl
 symbol-refused {number = number} {place = place} e q h = after-symbols e q (refl, ap (λ (l : ℕ). number ∷ place ∷ l ∷ []) h)
 
 -- a compilation's answer, told
-abbrev pub numbers_of : Compiled → List ℕ
-numbers_of (C.Accepted length) = 0 ∷ length ∷ 0 ∷ []
-numbers_of (C.Refused r) = r.number ∷ r.place ∷ r.line ∷ []
+abbrev pub numbers_of : Result ℕ Refusal → List ℕ
+numbers_of (Ok length) = 0 ∷ length ∷ 0 ∷ []
+numbers_of (Err r) = r.number ∷ r.place ∷ r.line ∷ []
 
 same_numbers : (source : List ℕ) (d : Refused) → numbers_of (answer_of source d) ≡ compiled_numbers source d
 unfolding refusal
 same_numbers source accepted = refl
 same_numbers source (refused number place) = refl
 
-pub compile-exported : {source scratch scratch' text text' : List ℕ} {answer matched : Compiled} → Compiles source scratch scratch' text text' answer
+pub compile-exported : {source scratch scratch' text text' : List ℕ} {answer matched : Result ℕ Refusal} → Compiles source scratch scratch' text text' answer
     → answer ≡ matched → CompileExported source scratch scratch' text text' (numbers_of matched)
 compile-exported {source} {scratch} {scratch'} {text} {text'} {answer} {matched} e q = record {
   clears = e.clears;
