@@ -9,14 +9,14 @@ returns-then-not-contains c =
     let r : c.contains.result ≡ (leb 512 (length c.args.memory.now) && leb (length c.args.memory.now) 32768) = search rules in
     passes-length c.args.text.now c.args.memory.now c.args.labels.now (sym r ∙ c.if-not-contains.true)
 
-pub returns-in-Unreadable : goal.returns-in-Unreadable
-returns-in-Unreadable c =
+pub returns-in-Err : goal.returns-in-Err
+returns-in-Err c =
     let r : c.contains.result ≡ (leb 512 (length c.args.memory.now) && leb (length c.args.memory.now) 32768) = search rules in
     passes-not c.args.text.now c.args.memory.now c.args.labels.now (sym r ∙ c.if-not-contains.false)
-    (begins-not c.args.text.now c.start_in.ensures c.in-Unreadable.is)
+    (begins-not c.args.text.now c.start_in.ensures c.in-Err.is)
 
-pub returns-in-From : goal.returns-in-From
-returns-in-From c =
+pub returns-in-Ok : goal.returns-in-Ok
+returns-in-Ok c =
     let r : c.contains.result ≡ (leb 512 (length c.args.memory.now) && leb (length c.args.memory.now) 32768) = search rules in
     passes-on c.args.text.now c.args.memory.now c.args.labels.now (sym r ∙ c.if-not-contains.false)
-    _ (begins c.args.text.now c.start_in.ensures c.in-From.is) _ _ _ c.passes_from.ensures
+    _ (begins c.args.text.now c.start_in.ensures c.in-Ok.is) _ _ _ c.passes_from.ensures
