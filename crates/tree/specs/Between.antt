@@ -1,6 +1,5 @@
 -- What the code reads and writes between two of the grammar's forms: parts of them, and what is said of their words.
-use Rattle.std.specs.Prelude.{ℕ, ◌+◌, ◌-◌, ◌<◌, ◌≡◌, Bool, cond, List, [], ◌∷◌, ◌++◌, length, take, get_or, eqb}
-use Rattle.text.specs.Written.{bytes}
+use Rattle.std.specs.Prelude.{ℕ, ◌+◌, ◌-◌, ◌<◌, ◌≡◌, Bool, cond, List, [], ◌∷◌, ◌++◌, length, take, eqb}
 use Rattle.language.specs.Kinds as K
 use Rattle.language.specs.Tree.{place_of, Name, Expression, Expressions, and_expression, count, is_call, Suffixes, ends_in_call, Unlabelled, leave}
 use Rattle.language.specs.Tree.{empty, Repeats, no_repeats, Locals, Body, Item, Function, Declaration, globals, manifests, functions, Program}
@@ -13,13 +12,6 @@ use Rattle.tree.specs.Encoding.{encode_unlabelled, encode_repeats, encode_locals
 use Rattle.language.specs.Reader.{ok, Reader, ◌>>=◌, return, is, unexpected, any, the, a_name, many, items, kind_at}
 use Rattle.tree.specs.declared.scratch.State.{State}
 use Rattle.tree.specs.declared.scratch.State.TheVariants.{Read}
-
--- a letter for each kind of symbol, by what it may do: those of one letter stand in the same classes of `Binding`
-abbrev pub letters : List ℕ
-letters = bytes ".ddd...eceen1c..ggggrrrc..c.llxxxxx22113333334467!@(.,..,c.eee"
-
-unfoldable pub letter_of : (kind : ℕ) → ℕ
-letter_of kind = get_or letters kind 46
 
 -- the binding of the right operands: those of a shift are sums
 unfoldable pub right_of : (binding : ℕ) → ℕ

@@ -1,13 +1,17 @@
 // Which symbols stand where: how operators bind, and which symbols begin what (language's `Binding`).
-ghost use Rattle.std.specs.Prelude.{◌-◌, ◌<◌, ◌≤◌, ◌≡◌, false, cond, eqb};
+ghost use Rattle.std.specs.Prelude.{◌<◌, ◌≤◌, ◌≡◌, false, cond, eqb};
 ghost use Rattle.language.specs.Kinds as K;
 ghost use Rattle.language.specs.Binding as B;
 ghost use Rattle.language.specs.Binding.{binding_of, is_monadic, is_suffix, is_guard, is_leave, is_repeat, is_label, is_declaration, goes_on_assignment};
 ghost use Rattle.language.specs.Binding.{begins_expression, begins_command, reach_of};
-ghost use Rattle.tree.specs.Between.{right_of, further_most, letter_of};
+ghost use Rattle.tree.specs.Between.{right_of, further_most};
 
-use crate::kinds::VEC;
-use crate::scratch::minus;
+use crate::kinds::{
+    AMPERSAND, ASSIGN, AT, ATLEAST, ATMOST, BAR, BEGIN, BREAK, CASE, COMMA, DEFAULT, ENDCASE,
+    EQUAL, FALSE, FINISH, FOR, GLOBAL, IF, LEFT, LESS, LET, LOOP, MANIFEST, MINUS, MORE, NAME, NOT,
+    NUMBER, OPEN, PLING, PLUS, REM, REPEAT, REPEATUNTIL, REPEATWHILE, RESULTIS, RETURN, RIGHT,
+    SLASH, STAR, STRING, SWITCHON, TEST, TRUE, UNEQUAL, UNLESS, UNTIL, VALOF, VEC, WHILE,
+};
 
 pub(crate) const LOOSEST: u32 = 7;
 
@@ -18,75 +22,50 @@ const SHIFT: u32 = 4;
 // The binding of NOT, which no dyadic operator has.
 pub(crate) const NEGATION: u32 = 5;
 
-// A letter for each kind of symbol, by what it may do. 1 2 3 4 6 7: a dyadic operator, by its binding (2 is also monadic);
-// ! @ n: the other monadic operators; (: an opening bracket; e: what else begins an expression; g: a guard; x: a word that leaves;
-// c: what else begins a command; r: a REPEAT form; l: a label; `,`: goes on an assignment; d: a declaration.
-const LETTERS: [u8; 62] = *b".ddd...eceen1c..ggggrrrc..c.llxxxxx22113333334467!@(.,..,c.eee";
-
-fn letter_of(kind: u32) -> u8
-    ensures { result ≡ letter_of kind }
-{
-    if kind < 62 {
-        LETTERS[kind as usize]
-    } else {
-        b'.'
-    }
-}
-
 // The binding of a dyadic operator, and 0 for any other symbol.
+#[tactic(auto, unfolding(language::specs::Binding::binding_of, language::specs::Kinds::member))]
 pub(crate) fn binding_of(kind: u32) -> u32
     ensures { result ≡ binding_of kind }
 {
-    let letter = letter_of(kind);
-    match letter {
-        b'1' => 1,
-        b'2' => 2,
-        b'3' => 3,
-        b'4' => 4,
-        b'6' => 6,
-        b'7' => 7,
+    match kind {
+        STAR | SLASH | REM => 1,
+        PLUS | MINUS => 2,
+        EQUAL | UNEQUAL | LESS | ATMOST | MORE | ATLEAST => RELATION,
+        LEFT | RIGHT => SHIFT,
+        AMPERSAND => 6,
+        BAR => LOOSEST,
         _ => 0,
     }
 }
 
+#[tactic(auto, unfolding(language::specs::Binding::is_monadic, language::specs::Kinds::member))]
 pub(crate) fn is_monadic(kind: u32) -> bool
     ensures { result ≡ is_monadic kind }
 {
-    let letter = letter_of(kind);
-    match letter {
-        b'2' => true,
-        b'!' => true,
-        b'@' => true,
-        b'n' => true,
-        _ => false,
-    }
+    matches!(kind, PLING | AT | PLUS | MINUS | NOT)
 }
 
+#[tactic(auto, unfolding(language::specs::Binding::is_suffix, language::specs::Kinds::member))]
 pub(crate) fn is_suffix(kind: u32) -> bool
     ensures { result ≡ is_suffix kind }
 {
-    let letter = letter_of(kind);
-    match letter {
-        b'(' => true,
-        b'!' => true,
-        _ => false,
-    }
+    matches!(kind, OPEN | PLING)
 }
 
 // How loosely the operators in the operand of a monadic operator may bind.
+#[tactic(auto, unfolding(language::specs::Binding::reach_of, language::specs::Kinds::member))]
 pub(crate) fn reach_of(kind: u32) -> u32
     ensures { (result ≡ reach_of kind) × (result ≤ B.LOOSEST) }
 {
-    let letter = letter_of(kind);
-    match letter {
-        b'!' => 0,
-        b'@' => 0,
-        b'2' => 1,
-        _ => 4,
+    match kind {
+        PLING | AT => 0,
+        PLUS | MINUS => 1,
+        _ => SHIFT,
     }
 }
 
 // The binding of the right operands of an operator.
+#[tactic(auto, unfolding(crate::specs::Between::right_of))]
 pub(crate) fn right_of(binding: u32) -> u32
     requires { 0 < binding }
     ensures { (result ≡ right_of binding) × (result < binding) }
@@ -95,78 +74,82 @@ pub(crate) fn right_of(binding: u32) -> u32
 }
 
 // How many operations may follow the first.
+#[tactic(auto, unfolding(crate::specs::Between::further_most))]
 pub(crate) fn further_most(binding: u32, n: usize) -> usize
     ensures { result ≡ further_most binding n }
 {
-    if binding == RELATION { 0 } else { minus(n, 1) }
+    if binding == RELATION {
+        0
+    } else {
+        n.saturating_sub(1)
+    }
 }
 
+#[tactic(auto, unfolding(language::specs::Binding::is_guard, language::specs::Kinds::member))]
 pub(crate) fn is_guard(kind: u32) -> bool
     ensures { result ≡ is_guard kind }
 {
-    letter_of(kind) == b'g'
+    matches!(kind, IF | UNLESS | WHILE | UNTIL)
 }
 
+#[tactic(auto, unfolding(language::specs::Binding::is_leave, language::specs::Kinds::member))]
 pub(crate) fn is_leave(kind: u32) -> bool
     ensures { result ≡ is_leave kind }
 {
-    letter_of(kind) == b'x'
+    matches!(kind, ENDCASE | BREAK | LOOP | RETURN | FINISH)
 }
 
+#[tactic(auto, unfolding(language::specs::Binding::is_repeat, language::specs::Kinds::member))]
 pub(crate) fn is_repeat(kind: u32) -> bool
     ensures { result ≡ is_repeat kind }
 {
-    letter_of(kind) == b'r'
+    matches!(kind, REPEAT | REPEATWHILE | REPEATUNTIL)
 }
 
+#[tactic(auto, unfolding(language::specs::Binding::is_label, language::specs::Kinds::member))]
 pub(crate) fn is_label(kind: u32) -> bool
     ensures { result ≡ is_label kind }
 {
-    letter_of(kind) == b'l'
+    matches!(kind, CASE | DEFAULT)
 }
 
+#[tactic(auto, unfolding(language::specs::Binding::goes_on_assignment, language::specs::Kinds::member))]
 pub(crate) fn goes_on_assignment(kind: u32) -> bool
     ensures { result ≡ goes_on_assignment kind }
 {
-    letter_of(kind) == b','
+    matches!(kind, COMMA | ASSIGN)
 }
 
+#[tactic(auto, unfolding(language::specs::Binding::is_declaration, language::specs::Kinds::member))]
 pub(crate) fn is_declaration(kind: u32) -> bool
     ensures { result ≡ is_declaration kind }
 {
-    letter_of(kind) == b'd'
+    matches!(kind, GLOBAL | MANIFEST | LET)
 }
 
+#[tactic(auto, unfolding(language::specs::Binding::begins_expression, language::specs::Kinds::member))]
 fn begins_expression(kind: u32) -> bool
     ensures { result ≡ begins_expression kind }
 {
-    let letter = letter_of(kind);
-    match letter {
-        b'e' => true,
-        b'(' => true,
-        b'2' => true,
-        b'!' => true,
-        b'@' => true,
-        b'n' => true,
-        _ => false,
-    }
+    matches!(
+        kind,
+        NUMBER | STRING | TRUE | FALSE | NAME | OPEN | VALOF | PLING | AT | PLUS | MINUS | NOT
+    )
 }
 
+#[tactic(auto, unfolding(language::specs::Binding::begins_command, language::specs::Kinds::member))]
 pub(crate) fn begins_command(kind: u32) -> bool
     ensures { result ≡ begins_command kind }
 {
-    let letter = letter_of(kind);
-    match letter {
-        b'g' => true,
-        b'x' => true,
-        b'c' => true,
-        _ => begins_expression(kind),
-    }
+    begins_expression(kind)
+        || is_guard(kind)
+        || is_leave(kind)
+        || matches!(kind, TEST | FOR | SWITCHON | RESULTIS | BEGIN)
 }
 
 // VEC stands only after one name.
 pub(crate) fn is_vector(kind: u32, further: usize) -> bool
     ensures { result ≡ cond (eqb kind K.VEC) (eqb further 0) false }
 {
-    if kind == VEC { further == 0 } else { false }
+    kind == VEC && further == 0
 }

@@ -16,7 +16,7 @@ use crate::kinds::{
 use crate::parts::{a_name, constant, further_names};
 use crate::phrases::{cmd, expr};
 use crate::scratch::{
-    State, begin_item, expect, free_of, kind_here, minus, node, optional, refuse, set_size,
+    State, begin_item, expect, free_of, kind_here, node, optional, refuse, set_size,
 };
 
 // Commands, brackets and expressions nest to 64 levels.
@@ -113,7 +113,7 @@ fn function(s: &mut [u32], n: usize, r: State) -> State
     let name = a_name(s, n, begun);
     let open = expect(s, n, name, OPEN);
     let parameters = parameters(s, n, open);
-    let size = minus(free_of(s, parameters), free_of(s, open));
+    let size = free_of(s, parameters).saturating_sub(free_of(s, open));
     let a = function_body(s, n, start, size as u32, parameters);
     set_size(s, n, a, lo);
     a

@@ -24,6 +24,8 @@ pub(crate) const FALSE: u32 = 10;
 
 pub(crate) const NOT: u32 = 11;
 
+pub(crate) const REM: u32 = 12;
+
 pub(crate) const TEST: u32 = 13;
 
 pub(crate) const DO: u32 = 14;
@@ -68,11 +70,37 @@ pub(crate) const RETURN: u32 = 33;
 
 pub(crate) const FINISH: u32 = 34;
 
+pub(crate) const PLUS: u32 = 35;
+
 pub(crate) const MINUS: u32 = 36;
+
+pub(crate) const STAR: u32 = 37;
+
+pub(crate) const SLASH: u32 = 38;
 
 pub(crate) const EQUAL: u32 = 39;
 
+pub(crate) const UNEQUAL: u32 = 40;
+
+pub(crate) const LESS: u32 = 41;
+
+pub(crate) const ATMOST: u32 = 42;
+
+pub(crate) const MORE: u32 = 43;
+
+pub(crate) const ATLEAST: u32 = 44;
+
+pub(crate) const LEFT: u32 = 45;
+
+pub(crate) const RIGHT: u32 = 46;
+
+pub(crate) const AMPERSAND: u32 = 47;
+
+pub(crate) const BAR: u32 = 48;
+
 pub(crate) const PLING: u32 = 49;
+
+pub(crate) const AT: u32 = 50;
 
 pub(crate) const OPEN: u32 = 51;
 

@@ -17,8 +17,7 @@ use crate::kinds::{
     BY, CASE, COLON, COMMA, DEFAULT, FALSE, MINUS, NAME, NUMBER, STRING, TRUE, VEC,
 };
 use crate::scratch::{
-    State, begin_item, expect, free_of, kind_here, minus, node, place_here, refuse, set_size,
-    value_here,
+    State, begin_item, expect, free_of, kind_here, node, place_here, refuse, set_size, value_here,
 };
 
 // A symbol that is a leaf of the tree.
@@ -206,7 +205,7 @@ pub(crate) fn labels(s: &mut [u32], n: usize, levels: usize, r: State) -> State
     ensures { Reading 0 (many_up_to (n - 1) [] is_label (C.label (within levels))) (Encodes encode_labels)
         s.old s.new n r result }
 {
-    let mut turns = minus(n, 1);
+    let mut turns = n.saturating_sub(1);
     let mut a = r;
     while turns > 0 {
         let kind = kind_here(s, n, a);
@@ -240,7 +239,7 @@ pub(crate) fn vector(s: &mut [u32], n: usize, levels: usize, start: usize, r: St
         × ((name : T.Name) → free_of (length s.old) r ≡ start + length (encode_name name)
         → Follows (C.vector (readers (within levels)) name src) (Gives (name ∷ [])) s.old s.new r result)) }
 {
-    let size = minus(free_of(s, r), start);
+    let size = free_of(s, r).saturating_sub(start);
     let word = expect(s, n, r, VEC);
     let length = constant(s, n, levels, word);
     node(s, n, length, start, size as u32, 0, VEC)

@@ -28,8 +28,8 @@ use crate::kinds::{
 };
 use crate::parts::{a_name, atom, further_names, label, labels, leave, optional_by, vector};
 use crate::scratch::{
-    State, begin_item, close_item, expect, free_of, is_call, kind_here, minus, node, optional,
-    place_here, place_of, refuse, set_size, suffixed_kind,
+    State, begin_item, close_item, expect, free_of, is_call, kind_here, node, optional, place_here,
+    place_of, refuse, set_size, suffixed_kind,
 };
 
 // What follows the first suffix: where it ends, and whether the last suffix is a call.
@@ -69,7 +69,7 @@ pub(crate) fn expr(s: &mut [u32], n: usize, levels: usize, binding: u32, r: Stat
     if binding_of(kind) != binding {
         return left;
     }
-    let size = minus(free_of(s, left), lo);
+    let size = free_of(s, left).saturating_sub(lo);
     let place = place_of(s, n, left);
     let right = right_of(binding);
     let first = op(s, n, levels, right, kind, left);
@@ -152,7 +152,7 @@ fn whole(s: &mut [u32], n: usize, levels: usize, r: State) -> State
     let primary = unit(s, n, levels, r);
     let kind = kind_here(s, n, primary);
     if is_suffix(kind) {
-        let size = minus(free_of(s, primary), lo);
+        let size = free_of(s, primary).saturating_sub(lo);
         let place = place_of(s, n, primary);
         let first = tail(s, n, levels, kind, primary);
         let last = tails(s, n, levels, kind == OPEN, first);
@@ -182,7 +182,7 @@ fn tails(s: &mut [u32], n: usize, levels: usize, first: bool, r: State) -> Suffi
     ensures { Reading 0 (many_up_to (n - 1) T.no_suffixes is_suffix (E.suffix (within levels))) (Ended first result.call) s.old
         s.new n r result.end }
 {
-    let mut turns = minus(n, 1);
+    let mut turns = n.saturating_sub(1);
     let mut call = first;
     let mut a = r;
     while turns > 0 {
@@ -363,7 +363,7 @@ fn cases(s: &mut [u32], n: usize, levels: usize, kind: u32, r: State) -> State
     let lo = free_of(s, r);
     let first = label(s, n, levels, kind, r);
     let last = labels(s, n, levels, first);
-    let size = minus(free_of(s, last), lo);
+    let size = free_of(s, last).saturating_sub(lo);
     let a = body(s, n, levels, true, last);
     node(s, n, a, lo, size as u32, 0, LABELLED)
 }
@@ -397,7 +397,7 @@ fn redo(s: &mut [u32], n: usize, levels: usize, r: State) -> State
     let body = plain(s, n, levels, r);
     let kind = kind_here(s, n, body);
     if is_repeat(kind) {
-        let size = minus(free_of(s, body), lo);
+        let size = free_of(s, body).saturating_sub(lo);
         let first = form(s, n, levels, kind, body);
         let last = forms(s, n, levels, first);
         return node(s, n, last, lo, size as u32, 0, REPEATED);
@@ -412,7 +412,7 @@ fn forms(s: &mut [u32], n: usize, levels: usize, r: State) -> State
     ensures { Reading 0 (many_up_to (n - 1) T.no_repeats is_repeat (C.repeat_form (readers (within levels)))) (Encodes encode_repeats)
         s.old s.new n r result }
 {
-    let mut turns = minus(n, 1);
+    let mut turns = n.saturating_sub(1);
     let mut a = r;
     while turns > 0 {
         let kind = kind_here(s, n, a);
@@ -523,7 +523,7 @@ fn step(s: &mut [u32], n: usize, levels: usize, r: State) -> State
     let to = expect(s, n, first, TO);
     let limit = expr(s, n, levels, LOOSEST, to);
     let by = optional_by(s, n, levels, limit);
-    let size = minus(free_of(s, by), free_of(s, limit));
+    let size = free_of(s, by).saturating_sub(free_of(s, limit));
     let then = expect(s, n, by, DO);
     let a = cmd(s, n, levels, then);
     node(s, n, a, lo, size as u32, 0, FOR)
@@ -538,7 +538,7 @@ fn pick(s: &mut [u32], n: usize, levels: usize, r: State) -> State
     let lo = free_of(s, r);
     let word = expect(s, n, r, SWITCHON);
     let value = expr(s, n, levels, LOOSEST, word);
-    let size = minus(free_of(s, value), lo);
+    let size = free_of(s, value).saturating_sub(lo);
     let into = expect(s, n, value, INTO);
     let begin = expect(s, n, into, BEGIN);
     let first = item(s, n, levels, begin);
@@ -615,7 +615,7 @@ fn block(s: &mut [u32], n: usize, levels: usize, r: State) -> State
     let lo = free_of(s, r);
     let begin = expect(s, n, r, BEGIN);
     let locals = lets(s, n, levels, begin);
-    let size = minus(free_of(s, locals), lo);
+    let size = free_of(s, locals).saturating_sub(lo);
     let a = till(s, n, levels, locals);
     node(s, n, a, lo, size as u32, 0, BEGIN)
 }
@@ -652,7 +652,7 @@ fn local(s: &mut [u32], n: usize, levels: usize, r: State) -> State
     let start = free_of(s, begun);
     let first = a_name(s, n, begun);
     let names = further_names(s, n, first);
-    let further = minus(free_of(s, names), free_of(s, first)) / 4;
+    let further = free_of(s, names).saturating_sub(free_of(s, first)) / 4;
     let equal = expect(s, n, names, EQUAL);
     let value = init(s, n, levels, start, further, equal);
     let a = optional(s, n, SEMICOLON, value);
@@ -673,7 +673,7 @@ fn init(s: &mut [u32], n: usize, levels: usize, start: usize, further: usize, r:
     if is_vector(kind, further) {
         return vector(s, n, levels, start, r);
     }
-    let size = minus(free_of(s, r), start);
+    let size = free_of(s, r).saturating_sub(start);
     let first = arg(s, n, levels, r);
     let last = rest(s, n, levels, further, first);
     node(s, n, last, start, size as u32, 0, LET)
@@ -703,10 +703,10 @@ fn set(s: &mut [u32], n: usize, levels: usize, lo: usize, r: State) -> State
         × ((e : T.Expression) → free_of (length s.old) r ≡ lo + length (encode e) → Follows (C.assignment (readers (within levels)) e src)
         (After e) s.old s.new r result)) }
 {
-    let size = minus(free_of(s, r), lo);
+    let size = free_of(s, r).saturating_sub(lo);
     let left = also(s, n, levels, r);
     let end = left.end;
-    let all = minus(free_of(s, end), lo);
+    let all = free_of(s, end).saturating_sub(lo);
     let word = expect(s, n, end, ASSIGN);
     let first = arg(s, n, levels, word);
     let last = rest(s, n, levels, left.count, first);

@@ -17,13 +17,6 @@ pub(crate) enum State {
     Refused(u16, usize),
 }
 
-// a - b, or 0.
-pub(crate) fn minus(a: usize, b: usize) -> usize
-    ensures { result ≡ a - b }
-{
-    if b < a { a - b } else { 0 }
-}
-
 pub(crate) fn kind_here(s: &[u32], n: usize, r: State) -> u32
     requires { Ready 0 s.now n r }
     ensures { (src : Source) → HoldsSymbols src n s.now → KindHere src r result }
@@ -120,7 +113,7 @@ pub(crate) fn node(
 {
     match r {
         State::Read(at, free) => {
-            s[free] = minus(free, lo) as u32;
+            s[free] = free.saturating_sub(lo) as u32;
             s[free + 1] = value;
             s[free + 2] = place;
             s[free + 3] = kind;
@@ -153,7 +146,7 @@ pub(crate) fn set_size(s: &mut [u32], n: usize, r: State, lo: usize)
     match r {
         State::Read(_, free) => {
             if lo < free {
-                s[lo] = minus(minus(free, lo), 2) as u32;
+                s[lo] = free.saturating_sub(lo).saturating_sub(2) as u32;
             }
         }
         State::Refused(_, _) => {}
@@ -167,7 +160,7 @@ pub(crate) fn close_item(s: &mut [u32], n: usize, r: State, lo: usize, tag: u32)
 {
     match r {
         State::Read(at, free) => {
-            s[free] = minus(free, lo) as u32;
+            s[free] = free.saturating_sub(lo) as u32;
             s[free + 1] = tag;
             State::Read(at, free + 2)
         }
@@ -176,6 +169,7 @@ pub(crate) fn close_item(s: &mut [u32], n: usize, r: State, lo: usize, tag: u32)
 }
 
 // The kind of a record with suffixes, by whether the last of them is a call.
+#[tactic(auto, unfolding(crate::specs::Encoding::suffixed_kind))]
 pub(crate) fn suffixed_kind(call: bool) -> u32
     ensures { result ≡ suffixed_kind call }
 {

@@ -21,7 +21,7 @@ function_spec = tie.close (tie.spec (λ c κs. search needs) (λ c κs. c.requir
     (ready-takes c.begin_item-begun.ensures.0 c.begin_item-begun.auto.s c.requires)))
     (λ c κs. search needs) (λ c κs. search needs) (λ c κs. search needs)
     -- cast-function-body
-    (λ c. let small = size_small _ c.minus-size.ensures c.free_of.ensures
+    (λ c. let small = size_small _ c.saturating_sub-size.ensures c.free_of.ensures
     (ready-leaves c.parameters-parameters.ensures.0 c.parameters-parameters.auto.s refl (ready-leaves c.expect-open.ensures.0 refl refl
     (ready-leaves c.a_name-name.ensures.0 c.a_name-name.auto.s refl
     (ready-takes c.begin_item-begun.ensures.0 c.begin_item-begun.auto.s c.requires)))) in omega arith)
@@ -42,7 +42,7 @@ function_spec = tie.close (tie.spec (λ c κs. search needs) (λ c κs. c.requir
     (λ c. let same = c.parameters-parameters.auto.s ∙ c.a_name-name.auto.s
     ∙ c.begin_item-begun.auto.s in leaves ((λ src l b e d f p z. function-here src _ c.free_of-lo.ensures (low c.requires) b
     (freed _ c.free_of-start.ensures c.begin_item-begun.auto.s) e d f
-    (for-size _ _ c.minus-size.ensures c.free_of.ensures c.free_of-2.ensures same)
+    (for-size _ _ c.saturating_sub-size.ensures c.free_of.ensures c.free_of-2.ensures same)
     (λ name names q. p.1 name names (ap (λ (z : ℕ). free_of z c.parameters-parameters.result) same ∙ q)) p.0 z) writing
     c.begin_item-begun.ensures with c.a_name-name.ensures with c.expect-open.ensures with c.parameters-parameters.ensures with
     c.function_body-a.ensures setting c.set_size.ensures) refl))

@@ -24,6 +24,6 @@ labels_spec = tie.close (tie.spec invariant-loop decreases-loop (λ _ _. tt) (λ
     (λ c. many-turns _ _ _ _ before-next c.loop-turns.invariant c.kind_here-kind.ensures (sym c.is_label.ensures ∙ c.if-is_label.true)
     c.label-a.ensures c.label-a.auto.s (omega arith)) (search needs)
     -- returns
-    (λ c. many-ends _ _ _ _ before_last (wordless no-label-words) c.minus-turns.ensures c.loop-turns.invariant
+    (λ c. many-ends _ _ _ _ before_last (wordless no-label-words) c.saturating_sub-turns.ensures c.loop-turns.invariant
     c.kind_here-kind.ensures (sym c.is_label.ensures ∙ c.if-is_label.false)) (search needs)
-    (λ c. many-spent _ _ _ _ before_last (wordless no-label-words) c.minus-turns.ensures c.loop-turns.invariant (omega arith)))
+    (λ c. many-spent _ _ _ _ before_last (wordless no-label-words) c.saturating_sub-turns.ensures c.loop-turns.invariant (omega arith)))

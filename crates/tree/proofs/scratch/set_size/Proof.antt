@@ -7,7 +7,7 @@ returns c = (
   search (set-size-fits, set-kept),
   sized_set c.requires.0
       c.requires.1 c.in-Read.is _
-      (c.minus-then-lo-free.ensures ∙ ap (λ (z : ℕ). z - 2) c.minus.ensures),
+      (c.saturating_sub-then-lo-free.ensures ∙ ap (λ (z : ℕ). z - 2) c.saturating_sub.ensures),
 )
 
 pub set_size_spec : {M : Type 1} → Rattle.tree.proofs.scratch.set_size.Statement.statement M

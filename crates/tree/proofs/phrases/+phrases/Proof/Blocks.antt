@@ -22,11 +22,11 @@ use Rattle.tree.specs.Encoding.{encode_commands, encode_locals}
 use Rattle.tree.specs.Reads.{free_of}
 use Rattle.tree.proofs.Wholes.{leaves, takes, ◌from◌, ◌writing◌, ◌with◌, ◌taking◌, ◌adding◌, ◌setting◌}
 use cycle.Proof.Ranks.{Calls, a-name, arg-rank, at, begin-item, below, block-rank, calls-2, calls-4, calls-6, calls-7, calls-8, calls-9, cmd-rank}
-use cycle.Proof.Ranks.{expect, expr_rank, free-of, further-names, init-rank, is-vector, item-rank, kind-here, lets-rank, list-rank, local-rank, minus}
+use cycle.Proof.Ranks.{expect, expr_rank, free-of, further-names, init-rank, is-vector, item-rank, kind-here, lets-rank, list-rank, local-rank, saturating-sub}
 use cycle.Proof.Ranks.{node, optional, optional-by, pick-rank, refuse, rest-rank, set-size, step-rank, till-rank, vector}
 
 abbrev pub step-cs : ℕ → Calls cycle.Lts-step.Claims
-step-cs t = calls-8 free-of expect a-name (below expr_rank t) optional-by minus (below cmd-rank t) node
+step-cs t = calls-8 free-of expect a-name (below expr_rank t) optional-by saturating-sub (below cmd-rank t) node
 
 pub step_ok : {M : Type 1} (t : ℕ) → cycle.Lts-step.Closed (step-cs t).claims (at step-rank t) step-rank.post M
 step_ok t = cycle.Lts-step.spec (step-cs t).claims (at step-rank t) step-rank.post (λ c κs. tt) (λ c κs. omega arith)
@@ -42,7 +42,7 @@ step_ok t = cycle.Lts-step.spec (step-cs t).claims (at step-rank t) step-rank.po
     -- cmd-requires
     (λ c κs. pair (omega (arith, c.requires.0)) (past-symbol refl c.expect-then.ensures))
     -- cast-node
-    (λ c. let small = size_small _ c.minus-size.ensures.1 c.free_of.ensures.1
+    (λ c. let small = size_small _ c.saturating_sub-size.ensures.1 c.free_of.ensures.1
     c.expect-then.ensures.0.0 in omega arith)
     (λ c κs. ready-leaves c.cmd-a.ensures.1.0 c.cmd-a.auto.s refl
     (past-symbol refl c.expect-then.ensures))
@@ -52,13 +52,13 @@ step_ok t = cycle.Lts-step.spec (step-cs t).claims (at step-rank t) step-rank.po
     -- returns
     (λ c. let same = c.optional_by-by.auto.s ∙ c.expr-limit.auto.s ∙ c.expr-first.auto.s ∙ c.a_name-name.auto.s in
     leaves ((λ src l a b e d f g h i j. for-read l _ _ c.free_of-lo.ensures.1 a b e d f g h i j
-    (for-size _ _ c.minus-size.ensures.1 c.free_of.ensures.1 c.free_of-2.ensures.1 same)) from c.expect-word.ensures.1
+    (for-size _ _ c.saturating_sub-size.ensures.1 c.free_of.ensures.1 c.free_of-2.ensures.1 same)) from c.expect-word.ensures.1
     with c.a_name-name.ensures.1 with c.expect-equal.ensures.1 with c.expr-first.ensures.1 with c.expect-to.ensures.1 with
     c.expr-limit.ensures.1 with c.optional_by-by.ensures.1 with c.expect-then.ensures.1 with c.cmd-a.ensures.1 adding
     c.node.ensures.1) refl)
 
 abbrev pub pick-cs : ℕ → Calls cycle.Lts-pick.Claims
-pick-cs t = calls-7 free-of expect (below expr_rank t) minus (below item-rank t) (below list-rank t) node
+pick-cs t = calls-7 free-of expect (below expr_rank t) saturating-sub (below item-rank t) (below list-rank t) node
 
 pub pick-ok : {M : Type 1} (t : ℕ) → cycle.Lts-pick.Closed (pick-cs t).claims (at pick-rank t) pick-rank.post M
 pick-ok t = cycle.Lts-pick.spec (pick-cs t).claims (at pick-rank t) pick-rank.post (λ c κs. tt) (λ c κs. omega arith)
@@ -69,12 +69,12 @@ pick-ok t = cycle.Lts-pick.spec (pick-cs t).claims (at pick-rank t) pick-rank.po
     -- list-requires
     (λ c κs. pair (omega (arith, c.requires.0)) (ready-takes c.item-first.ensures.1.0 c.item-first.auto.s c.item-first.ensures.0.1))
     -- cast-node
-    (λ c. let small = size_small _ c.minus-size.ensures.1 c.free_of.ensures.1 c.expect-into.ensures.0.0 in omega arith)
+    (λ c. let small = size_small _ c.saturating_sub-size.ensures.1 c.free_of.ensures.1 c.expect-into.ensures.0.0 in omega arith)
     (λ c κs. let list = c.list-a in ready-leaves list.ensures.1.0 list.auto.s refl list.ensures.0.1)
     (λ c. c.node.auto.s ∙ c.list-a.auto.s ∙ c.item-first.auto.s ∙ c.expr-value.auto.s)
     -- returns
     (λ c. leaves ((λ src l a b e d f g. switchon-read l _ _ c.free_of-lo.ensures.1 a b e d f g
-    (measured _ _ c.minus-size.ensures.1 c.free_of.ensures.1 c.expr-value.auto.s)) from c.expect-word.ensures.1 with
+    (measured _ _ c.saturating_sub-size.ensures.1 c.free_of.ensures.1 c.expr-value.auto.s)) from c.expect-word.ensures.1 with
     c.expr-value.ensures.1 with c.expect-into.ensures.1 with c.expect-begin.ensures.1 taking c.item-first.ensures.1 with
     c.list-a.ensures.1 adding c.node.ensures.1) refl)
 
@@ -142,7 +142,7 @@ till-ok t =
     c.list.ensures.1)
 
 abbrev pub block-cs : ℕ → Calls cycle.Lts-block.Claims
-block-cs t = calls-6 free-of expect (below lets-rank t) minus (below till-rank t) node
+block-cs t = calls-6 free-of expect (below lets-rank t) saturating-sub (below till-rank t) node
 
 pub block-ok : {M : Type 1} (t : ℕ) → cycle.Lts-block.Closed (block-cs t).claims (at block-rank t) block-rank.post M
 block-ok t = cycle.Lts-block.spec (block-cs t).claims (at block-rank t) block-rank.post (λ c κs. tt) (λ c κs. omega arith)
@@ -152,13 +152,13 @@ block-ok t = cycle.Lts-block.spec (block-cs t).claims (at block-rank t) block-ra
     c.lets-locals.auto.s refl
     (past-symbol refl c.expect-begin.ensures)))
     -- cast-node
-    (λ c. let small = size_small _ c.minus-size.ensures.1 c.free_of.ensures.1 (ready-part c.till-a.ensures.0.1 refl) in omega arith)
+    (λ c. let small = size_small _ c.saturating_sub-size.ensures.1 c.free_of.ensures.1 (ready-part c.till-a.ensures.0.1 refl) in omega arith)
     (λ c κs. let till = c.till-a in
     ready-leaves till.ensures.1.0 till.auto.s refl (ready-part till.ensures.0.1 refl))
     (λ c. omega arith)
     -- returns
     (λ c. leaves ((λ src l a b e. block_read l _ _ c.free_of-lo.ensures.1 a b e
-    (measured _ _ c.minus-size.ensures.1 c.free_of.ensures.1 c.lets-locals.auto.s)) from c.expect-begin.ensures.1 with
+    (measured _ _ c.saturating_sub-size.ensures.1 c.free_of.ensures.1 c.lets-locals.auto.s)) from c.expect-begin.ensures.1 with
     c.lets-locals.ensures.1 with c.till-a.ensures.1 adding c.node.ensures.1) refl)
 
 abbrev pub lets-cs : ℕ → Calls cycle.Lts-lets.Claims
@@ -187,7 +187,7 @@ lets-ok t =
     (λ c. omega arith) (λ c. many-spent _ _ _ _ before_last (wordless no-local-words) refl c.loop-turns.invariant (omega arith))
 
 abbrev pub local-cs : ℕ → Calls cycle.Lts-local.Claims
-local-cs t = calls-9 free-of expect begin-item a-name further-names minus (below init-rank t) optional set-size
+local-cs t = calls-9 free-of expect begin-item a-name further-names saturating-sub (below init-rank t) optional set-size
 
 pub local-ok : {M : Type 1} (t : ℕ) → cycle.Lts-local.Closed (local-cs t).claims (at local-rank t) local-rank.post M
 local-ok t = cycle.Lts-local.spec (local-cs t).claims (at local-rank t) local-rank.post (λ c κs. tt) (λ c κs. omega arith)
@@ -219,7 +219,7 @@ local-ok t = cycle.Lts-local.spec (local-cs t).claims (at local-rank t) local-ra
     l.count c.free_of-lo.ensures.1 (low-past c.requires.1 c.expect-word.ensures.1.0) (freed _ c.free_of-start.ensures.1
     c.begin_item-begun.auto.s) (omega (
       arith,
-      c.minus-further.ensures.1,
+      c.saturating_sub-further.ensures.1,
       freed _ c.free_of.ensures.1 (c.further_names-names.auto.s ∙ c.a_name-first.auto.s ∙ c.begin_item-begun.auto.s),
       freed _ c.free_of-2.ensures.1 (c.further_names-names.auto.s ∙ c.a_name-first.auto.s ∙ c.begin_item-begun.auto.s),
     )) (c.expect-word.ensures.1.1 src l)
@@ -229,7 +229,7 @@ local-ok t = cycle.Lts-local.spec (local-cs t).claims (at local-rank t) local-ra
     (c.init-value.ensures.1.1 src l₃).0 (c.optional-a.ensures.1.1 src l₄) c.set_size.ensures.1.1)))
 
 abbrev pub init-cs : ℕ → Calls cycle.Lts-init.Claims
-init-cs t = calls-8 kind-here is-vector vector free-of minus (below arg-rank t) (below rest-rank t) node
+init-cs t = calls-8 kind-here is-vector vector free-of saturating-sub (below arg-rank t) (below rest-rank t) node
 
 pub init-ok : {M : Type 1} (t : ℕ) → cycle.Lts-init.Closed (init-cs t).claims (at init-rank t) init-rank.post M
 init-ok t = cycle.Lts-init.spec (init-cs t).claims (at init-rank t) init-rank.post (λ c κs. omega arith) (λ c κs. tt) (λ c κs. omega arith)
@@ -249,7 +249,7 @@ init-ok t = cycle.Lts-init.spec (init-cs t).claims (at init-rank t) init-rank.po
     (λ c κs. tt) (λ c κs. tt) (λ c κs. omega arith) (λ c κs. let arg = c.arg-first in
     pair (omega arith) (ready-takes arg.ensures.1.0 arg.auto.s (ready-part arg.ensures.0.1 refl)))
     -- cast-node
-    (λ c. let small = size_small _ c.minus-size.ensures.1 c.free_of.ensures.1 (ready-part c.arg-first.ensures.0.1 refl) in omega arith)
+    (λ c. let small = size_small _ c.saturating_sub-size.ensures.1 c.free_of.ensures.1 (ready-part c.arg-first.ensures.0.1 refl) in omega arith)
     -- node-requires
     (λ c κs. ready-leaves c.rest-last.ensures.1.0 c.rest-last.auto.s refl (ready-takes c.arg-first.ensures.1.0 c.arg-first.auto.s c.requires.1))
     (λ c. omega arith)
@@ -259,5 +259,5 @@ init-ok t = cycle.Lts-init.spec (init-cs t).claims (at init-rank t) init-rank.po
     pair (goes_on_lem (c.arg-first.ensures.1.1 src l) then goes_on_lem (c.rest-last.ensures.1.1 src l₁) then adds_on c.node.ensures.1.1)
     (λ name names q e. given-values src _ (c.kind_here-kind.ensures.1 src l) name names
     (λ z. vector-not c.kind_here-kind.result c.args.further (sym c.is_vector.ensures.1 ∙ c.if-is_vector.false)
-    (omega (arith, q, z))) (values-read src _ _ name names _ q e (measured _ _ c.minus-size.ensures.1 c.free_of.ensures.1 refl)
+    (omega (arith, q, z))) (values-read src _ _ name names _ q e (measured _ _ c.saturating_sub-size.ensures.1 c.free_of.ensures.1 refl)
     (c.arg-first.ensures.1.1 src l) (c.rest-last.ensures.1.1 src l₁) c.node.ensures.1.1))))

@@ -19,12 +19,12 @@ use Rattle.tree.proofs.Symbols.{lies-still}
 use Rattle.tree.specs.Encoding.{encode_operations}
 use Rattle.tree.proofs.Wholes.{leaves, of-kind, ◌from◌, ◌with◌, ◌adding◌, ◌setting◌}
 use cycle.Proof.Ranks.{Calls, at, begin-item, below, binding-of, calls-12, calls-4, calls-5, calls-7, expect, expr_rank, free-of, further-most}
-use cycle.Proof.Ranks.{is-monadic, kind-here, minus, monad-rank, node, op-rank, place_here, place_of, reach_of, refuse, right_of, run-rank, set-size}
+use cycle.Proof.Ranks.{is-monadic, kind-here, saturating-sub, monad-rank, node, op-rank, place_here, place_of, reach_of, refuse, right_of, run-rank, set-size}
 use cycle.Proof.Ranks.{term-rank, whole-rank}
 
 abbrev pub expr-cs : ℕ → Calls cycle.Lts-expr.Claims
 expr-cs t =
-    calls-12 (below term-rank t) kind-here (below monad-rank t) (below expr_rank t) free-of binding-of minus place_of right_of (below op-rank t)
+    calls-12 (below term-rank t) kind-here (below monad-rank t) (below expr_rank t) free-of binding-of saturating-sub place_of right_of (below op-rank t)
     (below run-rank t) node
 
 pub expr-ok : {M : Type 1} (t : ℕ) → cycle.Lts-expr.Closed (expr-cs t).claims (at expr_rank t) expr_rank.post M
@@ -55,7 +55,7 @@ expr-ok t = cycle.Lts-expr.spec (expr-cs t).claims (at expr_rank t) expr_rank.po
     (λ c κs. pair (omega (arith, c.requires.0))
     (triple (ready-leaves c.op-first.ensures.1.0 c.op-first.auto.s refl c.op-first.ensures.0.1.0) (omega arith) (omega arith)))
     -- cast-node
-    (λ c. let small = size_small _ c.minus-size.ensures.1 c.free_of.ensures.1
+    (λ c. let small = size_small _ c.saturating_sub-size.ensures.1 c.free_of.ensures.1
     c.place_of-place.ensures.0 in omega arith)
     -- node-requires
     (λ c κs. let op = c.op-first in
@@ -67,7 +67,7 @@ expr-ok t = cycle.Lts-expr.spec (expr-cs t).claims (at expr_rank t) expr_rank.po
     (λ c. leaves ((λ src l d. let l₁ = lies-still l c.expr-left.ensures.1.0.kept in
     expression-more l₁ _ _ _ c.if-binding-eq0.false c.if-binding-eq-NEGATION.false c.requires.1.1 (c.kind_here-kind.ensures.1 src l₁) d
     c.right_of-right.ensures.1.0 (sym c.binding_of.ensures.1 ∙ c.if-binding_of-binding.false) c.free_of-lo.ensures.1
-    (measured _ _ c.minus-size.ensures.1 c.free_of.ensures.1 c.expr-left.auto.s) c.place_of-place.ensures.1) from
+    (measured _ _ c.saturating_sub-size.ensures.1 c.free_of.ensures.1 c.expr-left.auto.s) c.place_of-place.ensures.1) from
     c.expr-left.ensures.1 with of-kind c.kind_here-kind.ensures.1
     c.op-first.ensures.1 with c.run-last.ensures.1 adding c.node.ensures.1) refl)
 

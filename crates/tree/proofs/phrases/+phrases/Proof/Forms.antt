@@ -24,7 +24,7 @@ use Rattle.tree.specs.Reads.{free_of}
 use Rattle.tree.proofs.Wholes.{leaves, of-kind, ◌from◌, ◌with◌, ◌adding◌, ◌setting◌}
 use cycle.Proof.Ranks.{Calls, also-rank, arg-rank, at, bare-rank, begin-item, begins-command, below, block-rank, body-rank, calls-11, calls-4}
 use cycle.Proof.Ranks.{calls-5, calls-6, calls-7, calls-8, cases-rank, cmd-rank, expect, expr_rank, form-rank, forms-rank, free-of, give-rank}
-use cycle.Proof.Ranks.{goes-on-assignment, is_call, is-guard, is-label, is-leave, is-repeat, kind-here, label, labels, leave, minus, node, pick-rank}
+use cycle.Proof.Ranks.{goes-on-assignment, is_call, is-guard, is-label, is-leave, is-repeat, kind-here, label, labels, leave, saturating-sub, node, pick-rank}
 use cycle.Proof.Ranks.{place_here, plain-rank, redo-rank, refuse, rest-rank, set-rank, set-size, step-rank, test-rank, when-rank}
 
 abbrev pub cmd-cs : ℕ → Calls cycle.Lts-cmd.Claims
@@ -41,7 +41,7 @@ cmd-ok t =
     (λ c. command-plain _ c.kind_here-kind.ensures.1 c.is_label.ensures.1 c.if-is_label.false c.body.ensures.1)
 
 abbrev pub cases-cs : ℕ → Calls cycle.Lts-cases.Claims
-cases-cs t = calls-6 free-of label labels minus (below body-rank t) node
+cases-cs t = calls-6 free-of label labels saturating-sub (below body-rank t) node
 
 pub cases-ok : {M : Type 1} (t : ℕ) → cycle.Lts-cases.Closed (cases-cs t).claims (at cases-rank t) cases-rank.post M
 cases-ok t = cycle.Lts-cases.spec (cases-cs t).claims (at cases-rank t) cases-rank.post (λ c κs. tt) (λ c κs. omega arith)
@@ -49,7 +49,7 @@ cases-ok t = cycle.Lts-cases.spec (cases-cs t).claims (at cases-rank t) cases-ra
     (λ c κs. let e = c.labels-last in
     pair (omega arith) (ready-leaves e.ensures.1.0 e.auto.s refl e.ensures.0))
     -- cast-node
-    (λ c. let small = size_small _ c.minus-size.ensures.1 c.free_of.ensures.1 c.body-a.ensures.0.1 in omega arith)
+    (λ c. let small = size_small _ c.saturating_sub-size.ensures.1 c.free_of.ensures.1 c.body-a.ensures.0.1 in omega arith)
     -- node-requires
     (λ c κs. ready-leaves c.body-a.ensures.1.0 c.body-a.auto.s refl (ready-leaves c.labels-last.ensures.1.0 c.labels-last.auto.s refl
     (ready-leaves c.label-first.ensures.1.0 c.label-first.auto.s refl c.label-first.ensures.0)))
@@ -60,7 +60,7 @@ cases-ok t = cycle.Lts-cases.spec (cases-cs t).claims (at cases-rank t) cases-ra
     c.node.ensures.1.0) refl) (λ src l k q. (let l₁ = lies-still l c.label-first.ensures.1.0.kept in
     let l₂ = lies-still l₁ c.labels-last.ensures.1.0.kept in
     labelled-read l _ _ k q c.free_of-lo.ensures.1
-    (measured _ _ c.minus-size.ensures.1 c.free_of.ensures.1 (c.labels-last.auto.s ∙ c.label-first.auto.s))
+    (measured _ _ c.saturating_sub-size.ensures.1 c.free_of.ensures.1 (c.labels-last.auto.s ∙ c.label-first.auto.s))
     (c.label-first.ensures.1.1 src l k) (c.labels-last.ensures.1.1 src l₁) (c.body-a.ensures.1.1 src l₂) c.node.ensures.1.1)))
 
 abbrev pub body-cs : ℕ → Calls cycle.Lts-body.Claims
@@ -85,7 +85,7 @@ body_ok t = cycle.Lts-body.spec (body-cs t).claims (at body-rank t) body-rank.po
     c.refuse-2.ensures.1)
 
 abbrev pub redo-cs : ℕ → Calls cycle.Lts-redo.Claims
-redo-cs t = calls-8 free-of (below plain-rank t) kind-here is-repeat minus (below form-rank t) (below forms-rank t) node
+redo-cs t = calls-8 free-of (below plain-rank t) kind-here is-repeat saturating-sub (below form-rank t) (below forms-rank t) node
 
 pub redo-ok : {M : Type 1} (t : ℕ) → cycle.Lts-redo.Closed (redo-cs t).claims (at redo-rank t) redo-rank.post M
 redo-ok t = cycle.Lts-redo.spec (redo-cs t).claims (at redo-rank t) redo-rank.post (λ c κs. tt) (λ c κs. omega arith)
@@ -96,7 +96,7 @@ redo-ok t = cycle.Lts-redo.spec (redo-cs t).claims (at redo-rank t) redo-rank.po
     -- forms-requires
     (λ c κs. pair (omega (arith, c.requires.0)) (past-expression refl c.form-first.ensures c.form-first.auto.s))
     -- cast-node
-    (λ c. let small = size_small _ c.minus-size.ensures.1 c.free_of.ensures.1 c.form-first.ensures.0.1.0 in omega arith)
+    (λ c. let small = size_small _ c.saturating_sub-size.ensures.1 c.free_of.ensures.1 c.form-first.ensures.0.1.0 in omega arith)
     -- node-requires
     (λ c κs. ready-leaves c.forms-last.ensures.1.0 c.forms-last.auto.s refl (ready-leaves c.form-first.ensures.1.0 c.form-first.auto.s refl
     (ready-leaves c.plain-body.ensures.1.0 c.plain-body.auto.s refl c.plain-body.ensures.0.1)))
@@ -104,7 +104,7 @@ redo-ok t = cycle.Lts-redo.spec (redo-cs t).claims (at redo-rank t) redo-rank.po
     -- returns
     (λ c. leaves ((λ src l d. let l₁ = lies-still l c.plain-body.ensures.1.0.kept in
     repeated-more l₁ _ _ (c.kind_here-kind.ensures.1 src l₁) d (sym c.is_repeat.ensures.1 ∙ c.if-is_repeat.true)
-    c.free_of-lo.ensures.1 (measured _ _ c.minus-size.ensures.1 c.free_of.ensures.1 c.plain-body.auto.s)) from
+    c.free_of-lo.ensures.1 (measured _ _ c.saturating_sub-size.ensures.1 c.free_of.ensures.1 c.plain-body.auto.s)) from
     c.plain-body.ensures.1 with of-kind c.kind_here-kind.ensures.1
     c.form-first.ensures.1 with c.forms-last.ensures.1 adding c.node.ensures.1) refl)
     (λ c. omega arith)
@@ -114,7 +114,7 @@ redo-ok t = cycle.Lts-redo.spec (redo-cs t).claims (at redo-rank t) redo-rank.po
     c.plain-body.ensures.1) refl)
 
 abbrev pub forms-cs : ℕ → Calls cycle.Lts-forms.Claims
-forms-cs t = calls-4 minus kind-here is-repeat (below form-rank t)
+forms-cs t = calls-4 saturating-sub kind-here is-repeat (below form-rank t)
 
 abbrev forms-inv : cycle.Lts-forms.invariant-loop-turns
 forms-inv s₀ n levels turns₀ a₀ s turns a =
@@ -138,10 +138,10 @@ forms-ok t = cycle.Lts-forms.spec (forms-cs t).claims (at forms-rank t) forms-ra
     c.form-a.ensures.1 c.form-a.auto.s (omega arith))
     (λ c. omega arith)
     -- returns
-    (λ c. many-ends _ _ _ _ before_last (wordless no-repeat-words) c.minus-turns.ensures.1 c.loop-turns.invariant
+    (λ c. many-ends _ _ _ _ before_last (wordless no-repeat-words) c.saturating_sub-turns.ensures.1 c.loop-turns.invariant
     c.kind_here-kind.ensures.1 (sym c.is_repeat.ensures.1 ∙ c.if-is_repeat.false))
     (λ c. omega arith)
-    (λ c. many-spent _ _ _ _ before_last (wordless no-repeat-words) c.minus-turns.ensures.1 c.loop-turns.invariant (omega arith))
+    (λ c. many-spent _ _ _ _ before_last (wordless no-repeat-words) c.saturating_sub-turns.ensures.1 c.loop-turns.invariant (omega arith))
 
 abbrev pub form-cs : ℕ → Calls cycle.Lts-form.Claims
 form-cs t = calls-5 free-of expect begin-item (below expr_rank t) set-size
@@ -269,7 +269,7 @@ bare-ok t = cycle.Lts-bare.spec (bare-cs t).claims (at bare-rank t) bare-rank.po
     (refuses-on c.refuse.ensures.1.1))))
 
 abbrev pub set-cs : ℕ → Calls cycle.Lts-set.Claims
-set-cs t = calls-7 free-of minus (below also-rank t) expect (below arg-rank t) (below rest-rank t) node
+set-cs t = calls-7 free-of saturating-sub (below also-rank t) expect (below arg-rank t) (below rest-rank t) node
 
 pub set-ok : {M : Type 1} (t : ℕ) → cycle.Lts-set.Closed (set-cs t).claims (at set-rank t) set-rank.post M
 set-ok t =
@@ -279,9 +279,9 @@ set-ok t =
     -- rest-requires
     (λ c κs. pair (omega (arith, c.requires.0)) (ready-takes c.arg-first.ensures.1.0 c.arg-first.auto.s (ready-part c.arg-first.ensures.0.1 refl)))
     -- cast-node
-    (λ c. let small = size_small _ c.minus-size.ensures.1 c.free_of.ensures.1 c.also-left.ensures.0.1 in omega arith)
+    (λ c. let small = size_small _ c.saturating_sub-size.ensures.1 c.free_of.ensures.1 c.also-left.ensures.0.1 in omega arith)
     -- cast-node-2
-    (λ c. let small = size_small _ c.minus-all.ensures.1 c.free_of-2.ensures.1
+    (λ c. let small = size_small _ c.saturating_sub-all.ensures.1 c.free_of-2.ensures.1
     c.expect-word.ensures.0.0 in omega arith)
     -- node-requires
     (λ c κs. ready-leaves c.rest-last.ensures.1.0 c.rest-last.auto.s refl
@@ -293,6 +293,6 @@ set-ok t =
     (λ src l. let l₁ = lies-still l c.also-left.ensures.1.0.kept in let l₂ = lies-still l₁ c.arg-first.ensures.1.0.kept in
     pair (goes_on_lem (c.also-left.ensures.1.1 src l) then goes_on_lem (c.expect-word.ensures.1.1 src l₁) then goes_on_lem
     (c.arg-first.ensures.1.1 src l₁) then goes_on_lem (c.rest-last.ensures.1.1 src l₂) then adds_on c.node.ensures.1.1)
-    (λ e q. assignment-read src _ _ _ e l.count q (measured _ _ c.minus-size.ensures.1 c.free_of.ensures.1 refl)
-    (measured _ _ c.minus-all.ensures.1 c.free_of-2.ensures.1 c.also-left.auto.s) (c.also-left.ensures.1.1 src l)
+    (λ e q. assignment-read src _ _ _ e l.count q (measured _ _ c.saturating_sub-size.ensures.1 c.free_of.ensures.1 refl)
+    (measured _ _ c.saturating_sub-all.ensures.1 c.free_of-2.ensures.1 c.also-left.auto.s) (c.also-left.ensures.1.1 src l)
     (c.expect-word.ensures.1.1 src l₁) (c.arg-first.ensures.1.1 src l₁) (c.rest-last.ensures.1.1 src l₂) c.node.ensures.1.1)))

@@ -2,10 +2,11 @@
 -- takes one, and every other call goes to a smaller rank. An expression's rank grows with its binding: 20 and four for each step of it. Below
 -- stand its operands, from 16 to 9; above it lists of expressions, 50 to 52, what commands are made of, 51 to 59, a command 55, and 60 and 61
 -- for what stands after labels.
-use Rattle.laws.proofs.Basics.{ℕ, ◌+◌, ◌*◌, ◌<◌, List, [], ◌∷◌}
-use mir.Syntax.{Symbol}
+use Rattle.laws.proofs.Basics.{ℕ, ◌+◌, ◌-◌, ◌*◌, ◌<◌, ◌≡◌, List, [], ◌∷◌}
+use mir.Syntax.{Symbol, w64}
 use borrow.Fn.Kind.{ParamKind, ResultKind}
 use borrow.Fn.Kinds.{In, Out}
+use borrow.Kind.Num.{p_num, r_num}
 use borrow.Fn.PlainCycle.{Measures, is, falls, and}
 use Rattle.tree.proofs.Asked.{Callee, callee, with-asked}
 use Rattle.tree.proofs.binding as b
@@ -120,9 +121,6 @@ is_call = callee s.is_call.Kinds.ps s.is_call.Kinds.r s.is_call.Reads.Asked s.is
 abbrev pub kind-here : Callee
 kind-here = callee s.kind_here.Kinds.ps s.kind_here.Kinds.r s.kind_here.Reads.Asked s.kind_here.Reads.Learnt "tree::scratch::kind_here"
 
-abbrev pub minus : Callee
-minus = callee s.minus.Kinds.ps s.minus.Kinds.r s.minus.Reads.Asked s.minus.Reads.Learnt "tree::scratch::minus"
-
 abbrev pub node : Callee
 node = callee s.node.Kinds.ps s.node.Kinds.r s.node.Reads.Asked s.node.Reads.Learnt "tree::scratch::node"
 
@@ -144,6 +142,10 @@ set-size = callee s.set_size.Kinds.ps s.set_size.Kinds.r s.set_size.Reads.Asked 
 abbrev pub suffixed-kind : Callee
 suffixed-kind =
     callee s.suffixed_kind.Kinds.ps s.suffixed_kind.Kinds.r s.suffixed_kind.Reads.Asked s.suffixed_kind.Reads.Learnt "tree::scratch::suffixed_kind"
+
+-- `saturating_sub` of usize
+abbrev pub saturating-sub : Callee
+saturating-sub = callee {n = 0} (p_num w64 ∷ p_num w64 ∷ []) (r_num w64) (λ _ _. Unit {0}) (λ _ a z _. z ≡ a.0 - a.1.0) "core::int::usize::saturating_sub"
 
 -- what a function calls: a list of it, and the tuple of what is asked and learnt that its rule takes
 pub record Calls (T : Type 1) : Type 3 where

@@ -27,12 +27,12 @@ use Rattle.tree.specs.Encoding.{encode_expressions}
 use Rattle.tree.specs.Reads.{Encodes}
 use Rattle.tree.proofs.Wholes.{leaves, takes, of-kind, ◌from◌, ◌writing◌, ◌with◌, ◌adding◌, ◌setting◌}
 use cycle.Proof.Ranks.{Calls, also-rank, arg-rank, at, atom, begin-item, below, call-rank, calls-10, calls-2, calls-3, calls-4, calls-5, calls-6}
-use cycle.Proof.Ranks.{close-item, cmd-rank, expect, expr_rank, free-of, index-rank, is-monadic, is-suffix, unary-rank, kind-here, minus, monad-rank}
+use cycle.Proof.Ranks.{close-item, cmd-rank, expect, expr_rank, free-of, index-rank, is-monadic, is-suffix, unary-rank, kind-here, saturating-sub, monad-rank}
 use cycle.Proof.Ranks.{nest-rank, node, pass-rank, place_here, place_of, refuse, rest-rank, set-size, suffixed-kind, tail-rank, tails-rank, unit-rank}
 use cycle.Proof.Ranks.{valof-rank, whole-rank}
 
 abbrev pub whole-cs : ℕ → Calls cycle.Lts-whole.Claims
-whole-cs t = calls-10 free-of (below unit-rank t) kind-here is-suffix minus place_of (below tail-rank t) (below tails-rank t) suffixed-kind node
+whole-cs t = calls-10 free-of (below unit-rank t) kind-here is-suffix saturating-sub place_of (below tail-rank t) (below tails-rank t) suffixed-kind node
 
 pub whole-ok : {M : Type 1} (t : ℕ) → cycle.Lts-whole.Closed (whole-cs t).claims (at whole-rank t) whole-rank.post M
 whole-ok t = cycle.Lts-whole.spec (whole-cs t).claims (at whole-rank t) whole-rank.post (λ c κs. tt) (λ c κs. omega arith)
@@ -41,7 +41,7 @@ whole-ok t = cycle.Lts-whole.spec (whole-cs t).claims (at whole-rank t) whole-ra
     -- tails-requires
     (λ c κs. pair (omega (arith, c.requires.0)) (past-part refl c.tail-first.ensures c.tail-first.auto.s))
     -- cast-node
-    (λ c. let small = size_small _ c.minus-size.ensures.1 c.free_of.ensures.1
+    (λ c. let small = size_small _ c.saturating_sub-size.ensures.1 c.free_of.ensures.1
     c.place_of-place.ensures.0 in omega arith)
     (λ c κs. tt)
     -- node-requires
@@ -53,7 +53,7 @@ whole-ok t = cycle.Lts-whole.spec (whole-cs t).claims (at whole-rank t) whole-ra
     -- returns
     (λ c. leaves ((λ src l d. let l₁ = lies-still l c.unit-primary.ensures.1.0.kept in
     suffixed-more l₁ _ _ (c.kind_here-kind.ensures.1 src l₁) d (sym c.is_suffix.ensures.1 ∙ c.if-is_suffix.true)
-    c.free_of-lo.ensures.1 (measured _ _ c.minus-size.ensures.1 c.free_of.ensures.1 c.unit-primary.auto.s)
+    c.free_of-lo.ensures.1 (measured _ _ c.saturating_sub-size.ensures.1 c.free_of.ensures.1 c.unit-primary.auto.s)
     c.place_of-place.ensures.1 c.suffixed_kind.ensures.1) from c.unit-primary.ensures.1 with of-kind
     c.kind_here-kind.ensures.1 c.tail-first.ensures.1 with c.tails-last.ensures.1 adding c.node.ensures.1) refl)
     (λ c. omega arith)
@@ -112,7 +112,7 @@ tail-ok t = cycle.Lts-tail.spec (tail-cs t).claims (at tail-rank t) tail-rank.po
     (λ c. suffix-index _ c.if-kind-eq-OPEN.false c.index.ensures.1)
 
 abbrev pub tails-cs : ℕ → Calls cycle.Lts-tails.Claims
-tails-cs t = calls-4 minus kind-here is-suffix (below tail-rank t)
+tails-cs t = calls-4 saturating-sub kind-here is-suffix (below tail-rank t)
 
 abbrev tails-inv : cycle.Lts-tails.invariant-loop-turns
 tails-inv s₀ n levels first turns₀ call₀ a₀ s turns call a =
@@ -135,10 +135,10 @@ tails-ok t = cycle.Lts-tails.spec (tails-cs t).claims (at tails-rank t) tails-ra
     c.tail-a.ensures.1 c.tail-a.auto.s (omega arith))
     (λ c. omega arith)
     -- returns
-    (λ c. many-ends _ _ _ _ suffix_last no-suffix-ended c.minus-turns.ensures.1 c.loop-turns.invariant
+    (λ c. many-ends _ _ _ _ suffix_last no-suffix-ended c.saturating_sub-turns.ensures.1 c.loop-turns.invariant
     c.kind_here-kind.ensures.1 (sym c.is_suffix.ensures.1 ∙ c.if-is_suffix.false))
     (λ c. omega arith)
-    (λ c. many-spent _ _ _ _ suffix_last no-suffix-ended c.minus-turns.ensures.1 c.loop-turns.invariant (omega arith))
+    (λ c. many-spent _ _ _ _ suffix_last no-suffix-ended c.saturating_sub-turns.ensures.1 c.loop-turns.invariant (omega arith))
 
 abbrev pub call-cs : ℕ → Calls cycle.Lts-call.Claims
 call-cs t = calls-5 refuse free-of expect (below pass-rank t) close-item
