@@ -160,8 +160,9 @@ expression-next {m} put put' w w' h g = record {
 }
 
 pub expression-last :
-    {m : ℕ} (put : Expressions → Expressions) (es : Expressions) (w v : List ℕ) → CountedSoFar m put w → Counted 0 es v → Counted m (put es) (w ++ v)
-expression-last put es w v h g = record { same = ap (λ (l : List ℕ). w ++ l) g.same ∙ sym (h.puts es); many = omega (arith, h.many es, g.many) }
+    {m k : ℕ} → m ≡ k → (put : Expressions → Expressions) (es : Expressions) (w v : List ℕ) → CountedSoFar m put w → Counted 0 es v
+    → Counted k (put es) (w ++ v)
+expression-last e put es w v h g = record { same = ap (λ (l : List ℕ). w ++ l) g.same ∙ sym (h.puts es); many = omega (arith, h.many es, g.many) }
 
 pub no-expression-counted : Counted 0 T.no_expressions []
 unfolding encode_expressions T.count

@@ -46,12 +46,12 @@ module _ (x : ℕ) (src : Source) where
   after-comma t (no k p) = refl
 
   pub value-turn :
-      (t at : ℕ) → 0 < t
+      (t at : ℕ) → 0 < t → {t₁ : ℕ} → t₁ ≡ t - 1
       → C.further (readers (within x)) t src at ≡ on_out (a_further x src at)
-      (λ put m. on_out (C.further (readers (within x)) (t - 1) src m) (λ more q. ok (put more) q))
+      (λ put m. on_out (C.further (readers (within x)) t₁ src m) (λ more q. ok (put more) q))
   unfolding C.further a_further
-  value-turn zero at h = absurd (omega arith)
-  value-turn (suc t) at h = let q : t ≡ suc t - 1 = omega arith in
+  value-turn zero at h e = absurd (omega arith)
+  value-turn (suc t) at h {t₁} e = let q : t ≡ t₁ = omega arith in
       after-comma t (the K.COMMA src at)
       ∙ ap (λ (u : ℕ). on_out (a_further x src at) (λ put m. on_out (C.further (readers (within x)) u src m) (λ more q. ok (put more) q))) q
 

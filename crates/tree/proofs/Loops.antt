@@ -68,16 +68,22 @@ module _ {A : Type 0} {Says : (A → A) → List ℕ → Type 0} {read : Reader 
     so-ends none end e q =
         (so.room, λ src l. closes_as end (so.partly src l) (here (λ m. ok none m) (q src (lies-still l so.room.kept)) (nothing e)))
 
+-- the first of so many turns
+module _ {A : Type 0} (read : ℕ → Reader A) {Says : (A → A) → List ℕ → Type 0} {s₀ : List ℕ} {n : ℕ} {r₀ : State} where
+  pub so-starts : {m t t₀ : ℕ} → Ready m s₀ n r₀ → Says (λ x. x) [] → t ≡ t₀ → SoFar Says (read t₀) (read t) s₀ s₀ n r₀ r₀
+  so-starts {t = t} h e q = subst (λ (u : ℕ). SoFar Says (read u) (read t) s₀ s₀ n r₀ r₀) q (so-begins h e)
+
 -- { item }, up to so many
 module _ {A : Type 0} (none : A) (starts : ℕ → Bool) (one : Reader (A → A)) {Says : (A → A) → List ℕ → Type 0} (t : ℕ) {s₀ s : List ℕ} {n : ℕ}
     {r₀ r : State} where
   pub many-turns :
       {read : Reader A} {One Says' : (A → A) → List ℕ → Type 0} {k kind : ℕ} {s₁ : List ℕ} {r₁ : State}
       → Appends Says One Says' → SoFar Says read (many_up_to t none starts one) s₀ s n r₀ r → KindsHere s n r kind → starts kind ≡ true
-      → ReadingAt kind k one One s s₁ n r r₁ → length s₁ ≡ length s → 0 < t
-      → SoFar Says' read (many_up_to (t - 1) none starts one) s₀ s₁ n r₀ r₁
-  many-turns next so k b d e h = so-turns so (many_up_to (t - 1) none starts one) next (d.0, λ src l. d.1 src l (k src l)) e
-      (λ src l at free q. turned none starts one src t at h (sym (ap starts ((k src l).here at free q)) ∙ b))
+      → ReadingAt kind k one One s s₁ n r r₁ → length s₁ ≡ length s → 0 < t → {t₁ : ℕ} → t₁ ≡ t - 1
+      → SoFar Says' read (many_up_to t₁ none starts one) s₀ s₁ n r₀ r₁
+  many-turns {read} {One} {Says'} {s₁ = s₁} {r₁} next so k b d e h u = subst (λ (t₂ : ℕ). SoFar Says' read (many_up_to t₂ none starts one) s₀ s₁ n r₀ r₁) (sym u)
+      (so-turns so (many_up_to (t - 1) none starts one) next (d.0, λ src l. d.1 src l (k src l)) e
+      (λ src l at free q. turned none starts one src t at h (sym (ap starts ((k src l).here at free q)) ∙ b)))
 
   module _ {Rest Full : A → List ℕ → Type 0} (end : Ends Says Rest Full) (empty : Rest none []) {t₀ m : ℕ} (all : t₀ ≡ m)
       (so : SoFar Says (many_up_to t₀ none starts one) (many_up_to t none starts one) s₀ s n r₀ r) where
@@ -111,8 +117,9 @@ module _ {A : Type 0} (none : A) (one : Reader (A → A)) {enc : A → List ℕ}
   pub list-goes-on :
       {kind kind₁ : ℕ} {s₂ : List ℕ} {r₁ r₂ : State} → KindsHere s n r kind → (kind ≡ K.END → ⊥)
       → Reading 5 (the K.SEMICOLON) (Encodes (λ _. [])) s s n r r₁ → KindsHere s n r₁ kind₁ → (kind₁ ≡ K.END → ⊥) → TakesRoom 5 s s₂ n r₁ r₂
-      → length s₂ ≡ length s → ((src : Source) → HoldsSymbols src n s → Follows (one src) (Prepends enc) s s₂ r₁ r₂) → 0 < t
-      → SoFar (Before enc) read (more_up_to (t - 1) none one) s₀ s₂ n r₀ r₂
-  list-goes-on k q d k₁ q₁ room e g h = so-turns so (more_up_to (t - 1) none one) before-next
+      → length s₂ ≡ length s → ((src : Source) → HoldsSymbols src n s → Follows (one src) (Prepends enc) s s₂ r₁ r₂) → 0 < t → {t₁ : ℕ} → t₁ ≡ t - 1
+      → SoFar (Before enc) read (more_up_to t₁ none one) s₀ s₂ n r₀ r₂
+  list-goes-on {s₂ = s₂} {r₂ = r₂} k q d k₁ q₁ room e g h u = subst (λ (t₂ : ℕ). SoFar (Before enc) read (more_up_to t₂ none one) s₀ s₂ n r₀ r₂) (sym u)
+      (so-turns so (more_up_to (t - 1) none one) before-next
       (room-left {m = 0} (left d.0 less room) refl, λ src l. semicolon-item none one src (k src l) q (k₁ src l) q₁ (d.1 src l) (g src l)) e
-      (λ src l. list-more none one src (k src l) q (k₁ src l) q₁ (d.1 src l) t h)
+      (λ src l. list-more none one src (k src l) q (k₁ src l) q₁ (d.1 src l) t h))

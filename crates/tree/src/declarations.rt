@@ -41,9 +41,8 @@ fn further_items(s: &mut [u32], n: usize, sign: u32, r: State) -> State
     requires { Ready 0 s.old n r × (0 < sign) }
     ensures { Reading 5 (more_up_to n [] (G.item sign)) (Encodes encode_items) s.old s.new n r result }
 {
-    let mut turns = n;
     let mut a = r;
-    while turns > 0 {
+    for _ in 0..n {
         let here = kind_here(s, n, a);
         if here == END {
             return expect(s, n, a, END);
@@ -54,7 +53,6 @@ fn further_items(s: &mut [u32], n: usize, sign: u32, r: State) -> State
             return expect(s, n, semicolon, END);
         }
         a = one_item(s, n, sign, semicolon);
-        turns -= 1;
     }
     refuse(s, n, a, 6)
 }
@@ -124,16 +122,14 @@ fn further_functions(s: &mut [u32], n: usize, r: State) -> State
     requires { Ready 0 s.old n r }
     ensures { Reading 0 (many_up_to n [] (λ kind. eqb kind K.AND) G.and_function) (Encodes encode_functions) s.old s.new n r result }
 {
-    let mut turns = n;
     let mut a = r;
-    while turns > 0 {
+    for _ in 0..n {
         let kind = kind_here(s, n, a);
         if kind != AND {
             return a;
         }
         let word = expect(s, n, a, AND);
         a = function(s, n, word);
-        turns -= 1;
     }
     a
 }
@@ -180,16 +176,13 @@ fn declarations(s: &mut [u32], n: usize, r: State) -> State
     requires { Ready 0 s.old n r }
     ensures { Reading 0 (many_up_to n [] is_declaration G.declared) (Encodes encode_program) s.old s.new n r result }
 {
-    let mut turns = n;
     let mut a = r;
-    while turns > 0 {
+    for _ in 0..n {
         let kind = kind_here(s, n, a);
-        if is_declaration(kind) {
-            a = declared(s, n, kind, a);
-            turns -= 1;
-        } else {
+        if !is_declaration(kind) {
             return a;
         }
+        a = declared(s, n, kind, a);
     }
     a
 }

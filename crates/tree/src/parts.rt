@@ -138,16 +138,14 @@ pub(crate) fn further_names(s: &mut [u32], n: usize, r: State) -> State
     requires { Ready 0 s.old n r }
     ensures { Reading 0 (many_up_to n [] is_comma a_further_name) (Encodes encode_names) s.old s.new n r result }
 {
-    let mut turns = n;
     let mut a = r;
-    while turns > 0 {
+    for _ in 0..n {
         let kind = kind_here(s, n, a);
         if kind != COMMA {
             return a;
         }
         let comma = expect(s, n, a, COMMA);
         a = a_name(s, n, comma);
-        turns -= 1;
     }
     a
 }
@@ -205,16 +203,13 @@ pub(crate) fn labels(s: &mut [u32], n: usize, levels: usize, r: State) -> State
     ensures { Reading 0 (many_up_to (n - 1) [] is_label (C.label (within levels))) (Encodes encode_labels)
         s.old s.new n r result }
 {
-    let mut turns = n.saturating_sub(1);
     let mut a = r;
-    while turns > 0 {
+    for _ in 1..n {
         let kind = kind_here(s, n, a);
-        if is_label(kind) {
-            a = label(s, n, levels, kind, a);
-            turns -= 1;
-        } else {
+        if !is_label(kind) {
             return a;
         }
+        a = label(s, n, levels, kind, a);
     }
     a
 }

@@ -99,15 +99,13 @@ fn run(s: &mut [u32], n: usize, levels: usize, binding: u32, right: u32, r: Stat
     ensures { Reading 0 (many_up_to (further_most binding n) T.no_operations (λ kind. eqb (binding_of kind) binding)
         (E.operation (E.expression (within levels) right))) (Encodes encode_operations) s.old s.new n r result }
 {
-    let mut turns = further_most(binding, n);
     let mut a = r;
-    while turns > 0 {
+    for _ in 0..further_most(binding, n) {
         let kind = kind_here(s, n, a);
         if binding_of(kind) != binding {
             return a;
         }
         a = op(s, n, levels, right, kind, a);
-        turns -= 1;
     }
     a
 }
@@ -182,18 +180,15 @@ fn tails(s: &mut [u32], n: usize, levels: usize, first: bool, r: State) -> Suffi
     ensures { Reading 0 (many_up_to (n - 1) T.no_suffixes is_suffix (E.suffix (within levels))) (Ended first result.call) s.old
         s.new n r result.end }
 {
-    let mut turns = n.saturating_sub(1);
     let mut call = first;
     let mut a = r;
-    while turns > 0 {
+    for _ in 1..n {
         let kind = kind_here(s, n, a);
-        if is_suffix(kind) {
-            a = tail(s, n, levels, kind, a);
-            call = kind == OPEN;
-            turns -= 1;
-        } else {
+        if !is_suffix(kind) {
             return SuffixesRead { end: a, call };
         }
+        a = tail(s, n, levels, kind, a);
+        call = kind == OPEN;
     }
     SuffixesRead { end: a, call }
 }
@@ -251,20 +246,16 @@ fn also(s: &mut [u32], n: usize, levels: usize, r: State) -> FurtherRead
     ensures { Reading 0 (many_up_to n T.no_expressions is_comma (a_further levels)) (Counted result.count) s.old s.new n r
         result.end }
 {
-    let mut turns = n;
-    let mut count: usize = 0;
     let mut a = r;
-    while turns > 0 {
+    for count in 0..n {
         let kind = kind_here(s, n, a);
         if kind != COMMA {
             return FurtherRead { end: a, count };
         }
         let comma = expect(s, n, a, COMMA);
         a = arg(s, n, levels, comma);
-        count += 1;
-        turns -= 1;
     }
-    FurtherRead { end: a, count }
+    FurtherRead { end: a, count: n }
 }
 
 // ! primary
@@ -412,16 +403,13 @@ fn forms(s: &mut [u32], n: usize, levels: usize, r: State) -> State
     ensures { Reading 0 (many_up_to (n - 1) T.no_repeats is_repeat (C.repeat_form (readers (within levels)))) (Encodes encode_repeats)
         s.old s.new n r result }
 {
-    let mut turns = n.saturating_sub(1);
     let mut a = r;
-    while turns > 0 {
+    for _ in 1..n {
         let kind = kind_here(s, n, a);
-        if is_repeat(kind) {
-            a = form(s, n, levels, kind, a);
-            turns -= 1;
-        } else {
+        if !is_repeat(kind) {
             return a;
         }
+        a = form(s, n, levels, kind, a);
     }
     a
 }
@@ -568,9 +556,8 @@ fn list(s: &mut [u32], n: usize, levels: usize, r: State) -> State
     ensures { Reading 5 (more_up_to n T.no_commands (C.listed (readers (within levels)))) (Encodes encode_commands) s.old
         s.new n r result }
 {
-    let mut turns = n;
     let mut a = r;
-    while turns > 0 {
+    for _ in 0..n {
         let here = kind_here(s, n, a);
         if here == END {
             return expect(s, n, a, END);
@@ -581,7 +568,6 @@ fn list(s: &mut [u32], n: usize, levels: usize, r: State) -> State
             return expect(s, n, semicolon, END);
         }
         a = item(s, n, levels, semicolon);
-        turns -= 1;
     }
     refuse(s, n, a, 6)
 }
@@ -627,15 +613,13 @@ fn lets(s: &mut [u32], n: usize, levels: usize, r: State) -> State
     ensures { Reading 0 (many_up_to n T.no_locals (λ kind. eqb kind K.LET) (C.local (readers (within levels)))) (Encodes encode_locals)
         s.old s.new n r result }
 {
-    let mut turns = n;
     let mut a = r;
-    while turns > 0 {
+    for _ in 0..n {
         let kind = kind_here(s, n, a);
         if kind != LET {
             return a;
         }
         a = local(s, n, levels, a);
-        turns -= 1;
     }
     a
 }
@@ -685,12 +669,10 @@ fn rest(s: &mut [u32], n: usize, levels: usize, number: usize, r: State) -> Stat
     requires { Ready 0 s.old n r }
     ensures { Reading 0 (C.further (readers (within levels)) number) (Encodes encode_expressions) s.old s.new n r result }
 {
-    let mut left = number;
     let mut a = r;
-    while left > 0 {
+    for _ in 0..number {
         let comma = expect(s, n, a, COMMA);
         a = arg(s, n, levels, comma);
-        left -= 1;
     }
     a
 }

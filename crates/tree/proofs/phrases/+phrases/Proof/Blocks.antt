@@ -3,7 +3,7 @@ use Rattle.tree.proofs.phrases.+phrases as cycle
 use Rattle.language.specs.Kinds as K
 use Rattle.language.specs.Tree as T
 use Rattle.language.specs.Commands as C
-use Rattle.laws.proofs.Basics.{ℕ, ◌+◌, refl, sym, ap, ◌∙◌, eqb, arith, eq-eqb, ne_eqb}
+use Rattle.laws.proofs.Basics.{ℕ, ◌+◌, ◌-◌, refl, sym, ap, ◌∙◌, eqb, arith, eq-eqb, ne_eqb}
 use Rattle.language.specs.Grammar.{within, readers}
 use Rattle.language.specs.Reader.{many_up_to, more_up_to}
 use Rattle.tree.proofs.Blocks.{for-read, switchon-read, block_read, listed-read, no-command-words, no-commands, semicolon-commands}
@@ -12,7 +12,7 @@ use Rattle.tree.proofs.Choices.{at-any}
 use Rattle.tree.proofs.Helpers.{low, low-past}
 use Rattle.tree.proofs.Lets.{values-read, one_name, vector-is, vector-not, given-vector, given-values, no-local-words, local-read}
 use Rattle.tree.proofs.Lists.{Before}
-use Rattle.tree.proofs.Loops.{SoFar, before-first, before-next, before_last, wordless, so-begins, many-turns, many-ends, many-spent}
+use Rattle.tree.proofs.Loops.{SoFar, before-first, before-next, before_last, wordless, so-starts, many-turns, many-ends, many-spent}
 use Rattle.tree.proofs.Loops.{list-spents, list-ends, list-semicolon-ends, list-goes-on}
 use Rattle.tree.proofs.Rooms.{for-size, past-symbol, past-part, past-expression, left, taken, room-left, room-taken, takes-more, takes_none}
 use Rattle.tree.proofs.Rooms.{ready-leaves, ready-takes, ◌plus◌, ◌less◌, ready-part, item-low, size_small, freed, measured}
@@ -96,33 +96,33 @@ item_ok t = cycle.Lts-item.spec (item-cs t).claims (at item-rank t) item-rank.po
 abbrev pub list-cs : ℕ → Calls cycle.Lts-list.Claims
 list-cs t = calls-4 kind-here expect (below item-rank t) refuse
 
-abbrev list-inv : cycle.Lts-list.invariant-loop-turns
-list-inv s₀ n levels turns₀ a₀ s turns a = SoFar (Before encode_commands) (more_up_to turns₀ T.no_commands (C.listed (readers (within levels))))
-    (more_up_to turns T.no_commands (C.listed (readers (within levels)))) s₀ s n a₀ a
+abbrev list-inv : cycle.Lts-list.invariant-loop
+list-inv s₀ n levels a₀ counter₀ s a counter = SoFar (Before encode_commands) (more_up_to n T.no_commands (C.listed (readers (within levels))))
+    (more_up_to (n - counter) T.no_commands (C.listed (readers (within levels)))) s₀ s n a₀ a
 
-abbrev list-turns : cycle.Lts-list.decreases-loop-turns
-list-turns s₀ n levels turns₀ a₀ s turns a = turns
+abbrev list-turns : cycle.Lts-list.decreases-loop
+list-turns s₀ n levels a₀ counter₀ s a counter = n - counter
 
 pub list-ok : {M : Type 1} (t : ℕ) → cycle.Lts-list.Closed (list-cs t).claims (at list-rank t) list-rank.post M
 list-ok t =
-    cycle.Lts-list.spec (list-cs t).claims (at list-rank t) list-rank.post list-inv list-turns (λ c. so-begins c.requires.1 before-first)
-    (λ c κs. ready-leaves c.loop-turns.invariant.room c.loop-turns.invariant.same refl c.requires.1)
+    cycle.Lts-list.spec (list-cs t).claims (at list-rank t) list-rank.post list-inv list-turns (λ c. so-starts (λ u. more_up_to u T.no_commands (C.listed (readers (within c.args.levels)))) c.requires.1 before-first (omega arith))
+    (λ c κs. ready-leaves c.loop.invariant.room c.loop.invariant.same refl c.requires.1)
     (λ c κs. pair c.kind_here-here.ensures.0 (omega arith)) (λ c. omega arith)
     -- returns
-    (λ c. list-ends _ _ _ c.loop-turns.invariant c.kind_here-here.ensures.1 no-command-words c.if-here-eq-END.true c.expect.ensures.1 (omega arith))
+    (λ c. list-ends _ _ _ c.loop.invariant c.kind_here-here.ensures.1 no-command-words c.if-here-eq-END.true c.expect.ensures.1 (omega arith))
     (λ c κs. pair c.kind_here-here.ensures.0 (omega arith)) (λ c κs. past-symbol refl c.expect-semicolon.ensures)
     (λ c κs. pair c.kind_here-kind.ensures.0 (omega arith)) (λ c. omega arith)
     -- returns-2
     (λ c.
-    list-semicolon-ends _ _ _ c.loop-turns.invariant c.kind_here-here.ensures.1 no-command-words c.if-here-eq-END.false c.expect-semicolon.ensures.1
+    list-semicolon-ends _ _ _ c.loop.invariant c.kind_here-here.ensures.1 no-command-words c.if-here-eq-END.false c.expect-semicolon.ensures.1
     c.kind_here-kind.ensures.1 c.if-kind-eq-END.true c.expect-then-kind-eq-END.ensures.1 (omega arith))
     (λ c κs. pair (omega arith) (past-symbol refl c.expect-semicolon.ensures)) (λ c. omega arith) (λ c. omega arith)
     -- loop-again
-    (λ c. list-goes-on _ _ _ c.loop-turns.invariant c.kind_here-here.ensures.1 c.if-here-eq-END.false c.expect-semicolon.ensures.1
+    (λ c. list-goes-on _ _ _ c.loop.invariant c.kind_here-here.ensures.1 c.if-here-eq-END.false c.expect-semicolon.ensures.1
     c.kind_here-kind.ensures.1 c.if-kind-eq-END.false (takes-more c.item-a.ensures.1.0 refl) c.item-a.auto.s
-    c.item-a.ensures.1.1 (omega arith))
-    (λ c κs. ready-leaves c.loop-turns.invariant.room c.loop-turns.invariant.same refl c.requires.1)
-    (λ c. omega arith) (λ c. list-spents _ _ _ c.loop-turns.invariant c.refuse.ensures.1 (omega arith))
+    c.item-a.ensures.1.1 (omega arith) (omega arith))
+    (λ c κs. ready-leaves c.loop.invariant.room c.loop.invariant.same refl c.requires.1)
+    (λ c. omega arith) (λ c. list-spents _ _ _ c.loop.invariant c.refuse.ensures.1 (omega arith))
 
 abbrev pub till-cs : ℕ → Calls cycle.Lts-till.Claims
 till-cs t = calls-4 kind-here expect (below item-rank t) (below list-rank t)
@@ -164,27 +164,28 @@ block-ok t = cycle.Lts-block.spec (block-cs t).claims (at block-rank t) block-ra
 abbrev pub lets-cs : ℕ → Calls cycle.Lts-lets.Claims
 lets-cs t = calls-2 kind-here (below local-rank t)
 
-abbrev lets-inv : cycle.Lts-lets.invariant-loop-turns
-lets-inv s₀ n levels turns₀ a₀ s turns a =
-    SoFar (Before encode_locals) (many_up_to turns₀ T.no_locals (λ kind. eqb kind K.LET) (C.local (readers (within levels))))
-    (many_up_to turns T.no_locals (λ kind. eqb kind K.LET) (C.local (readers (within levels)))) s₀ s n a₀ a
+abbrev lets-inv : cycle.Lts-lets.invariant-loop
+lets-inv s₀ n levels a₀ counter₀ s a counter =
+    SoFar (Before encode_locals) (many_up_to n T.no_locals (λ kind. eqb kind K.LET) (C.local (readers (within levels))))
+    (many_up_to (n - counter) T.no_locals (λ kind. eqb kind K.LET) (C.local (readers (within levels)))) s₀ s n a₀ a
 
-abbrev lets-turns : cycle.Lts-lets.decreases-loop-turns
-lets-turns s₀ n levels turns₀ a₀ s turns a = turns
+abbrev lets-turns : cycle.Lts-lets.decreases-loop
+lets-turns s₀ n levels a₀ counter₀ s a counter = n - counter
 
 pub lets-ok : {M : Type 1} (t : ℕ) → cycle.Lts-lets.Closed (lets-cs t).claims (at lets-rank t) lets-rank.post M
 lets-ok t =
-    cycle.Lts-lets.spec (lets-cs t).claims (at lets-rank t) lets-rank.post lets-inv lets-turns (λ c. so-begins c.requires.1 before-first)
-    (λ c κs. ready-leaves c.loop-turns.invariant.room c.loop-turns.invariant.same refl c.requires.1)
-    (λ c. omega arith) (λ c. many-ends _ _ _ _ before_last (wordless no-local-words) refl c.loop-turns.invariant
+    cycle.Lts-lets.spec (lets-cs t).claims (at lets-rank t) lets-rank.post lets-inv lets-turns
+    (λ c. so-starts (λ u. many_up_to u T.no_locals (λ kind. eqb kind K.LET) (C.local (readers (within c.args.levels)))) c.requires.1 before-first
+    (omega arith))
+    (λ c κs. ready-leaves c.loop.invariant.room c.loop.invariant.same refl c.requires.1)
+    (λ c. omega arith) (λ c. many-ends _ _ _ _ before_last (wordless no-local-words) refl c.loop.invariant
     c.kind_here-kind.ensures.1 (ne_eqb _ _ c.if-kind-ne-LET.true))
-    (λ c κs. pair (omega arith) (ready-leaves c.loop-turns.invariant.room
-    c.loop-turns.invariant.same refl c.requires.1))
+    (λ c κs. pair (omega arith) (ready-leaves c.loop.invariant.room c.loop.invariant.same refl c.requires.1))
     (λ c. omega arith) (λ c. omega arith)
     -- loop-again
-    (λ c. many-turns _ _ _ _ before-next c.loop-turns.invariant c.kind_here-kind.ensures.1 (eq-eqb _ _ c.if-kind-ne-LET.false)
-    (at-any c.local-a.ensures.1) c.local-a.auto.s (omega arith))
-    (λ c. omega arith) (λ c. many-spent _ _ _ _ before_last (wordless no-local-words) refl c.loop-turns.invariant (omega arith))
+    (λ c. many-turns _ _ _ _ before-next c.loop.invariant c.kind_here-kind.ensures.1 (eq-eqb _ _ c.if-kind-ne-LET.false)
+    (at-any c.local-a.ensures.1) c.local-a.auto.s (omega arith) (omega arith))
+    (λ c. omega arith) (λ c. many-spent _ _ _ _ before_last (wordless no-local-words) refl c.loop.invariant (omega arith))
 
 abbrev pub local-cs : ℕ → Calls cycle.Lts-local.Claims
 local-cs t = calls-9 free-of expect begin-item a-name further-names saturating-sub (below init-rank t) optional set-size

@@ -2,7 +2,7 @@
 use Rattle.tree.proofs.phrases.+phrases as cycle
 use Rattle.language.specs.Tree as T
 use Rattle.language.specs.Expressions as E
-use Rattle.laws.proofs.Basics.{ℕ, refl, sym, ◌∙◌, eqb, arith, eq-eqb, ne_eqb}
+use Rattle.laws.proofs.Basics.{ℕ, ◌-◌, refl, sym, ◌∙◌, eqb, arith, eq-eqb, ne_eqb}
 use Rattle.language.specs.Binding.{binding_of}
 use Rattle.language.specs.Grammar.{within}
 use Rattle.language.specs.Reader.{many_up_to}
@@ -11,7 +11,7 @@ use Rattle.tree.proofs.Choices.{monadic-shut, expression-none, operand-monadic, 
 use Rattle.tree.proofs.Classes.{binding-positive, monadic-positive}
 use Rattle.tree.proofs.Helpers.{low-past}
 use Rattle.tree.proofs.Lists.{Before}
-use Rattle.tree.proofs.Loops.{SoFar, before-first, before-next, before_last, wordless, so-begins, many-turns, many-ends, many-spent}
+use Rattle.tree.proofs.Loops.{SoFar, before-first, before-next, before_last, wordless, so-starts, many-turns, many-ends, many-spent}
 use Rattle.tree.proofs.Readers.{monadic-read, operation-read}
 use Rattle.tree.proofs.Rooms.{past-symbol, past-expression, ready-leaves, ready-takes, item-low, size_small, measured}
 use Rattle.tree.proofs.Steps.{pair, triple}
@@ -90,31 +90,32 @@ op_ok t = cycle.Lts-op.spec (op-cs t).claims (at op-rank t) op-rank.post (λ c �
 abbrev pub run-cs : ℕ → Calls cycle.Lts-run.Claims
 run-cs t = calls-4 further-most kind-here binding-of (below op-rank t)
 
-abbrev run-inv : cycle.Lts-run.invariant-loop-turns
-run-inv s₀ n levels binding right turns₀ a₀ s turns a = SoFar (Before encode_operations)
-    (many_up_to turns₀ T.no_operations (λ kind. eqb (binding_of kind) binding) (E.operation (E.expression (within levels) right)))
-    (many_up_to turns T.no_operations (λ kind. eqb (binding_of kind) binding) (E.operation (E.expression (within levels) right))) s₀ s n a₀ a
+abbrev run-inv : cycle.Lts-run.invariant-loop
+run-inv s₀ n levels binding right a₀ counter₀ end s a counter = SoFar (Before encode_operations)
+    (many_up_to end T.no_operations (λ kind. eqb (binding_of kind) binding) (E.operation (E.expression (within levels) right)))
+    (many_up_to (end - counter) T.no_operations (λ kind. eqb (binding_of kind) binding) (E.operation (E.expression (within levels) right))) s₀ s n a₀ a
 
-abbrev run-turns : cycle.Lts-run.decreases-loop-turns
-run-turns s₀ n levels binding right turns₀ a₀ s turns a = turns
+abbrev run-turns : cycle.Lts-run.decreases-loop
+run-turns s₀ n levels binding right a₀ counter₀ end s a counter = end - counter
 
 pub run_ok : {M : Type 1} (t : ℕ) → cycle.Lts-run.Closed (run-cs t).claims (at run-rank t) run-rank.post M
 run_ok t = cycle.Lts-run.spec (run-cs t).claims (at run-rank t) run-rank.post run-inv run-turns (λ c κs. tt)
-    (λ c. so-begins c.requires.1.0 before-first)
-    (λ c κs. ready-leaves c.loop-turns.invariant.room c.loop-turns.invariant.same refl
+    (λ c. so-starts (λ u. many_up_to u T.no_operations (λ kind. eqb (binding_of kind) c.args.binding)
+    (E.operation (E.expression (within c.args.levels) c.args.right))) c.requires.1.0 before-first (omega arith))
+    (λ c κs. ready-leaves c.loop.invariant.room c.loop.invariant.same refl
     c.requires.1.0) (λ c κs. tt) (λ c. omega arith)
     -- returns
-    (λ c. many-ends _ _ _ _ before_last (wordless no-operation-words) c.further_most-turns.ensures.1
-    c.loop-turns.invariant c.kind_here-kind.ensures.1 (ne_eqb _ _ (λ z. c.if-binding_of-binding.true (c.binding_of.ensures.1 ∙ z))))
+    (λ c. many-ends _ _ _ _ before_last (wordless no-operation-words) c.further_most-end.ensures.1
+    c.loop.invariant c.kind_here-kind.ensures.1 (ne_eqb _ _ (λ z. c.if-binding_of-binding.true (c.binding_of.ensures.1 ∙ z))))
     -- op-requires
     (λ c κs. pair (omega arith) (triple c.kind_here-kind.ensures.0 (omega arith)
     (binding-positive _ (omega (arith, c.binding_of.ensures.1, c.if-binding_of-binding.false, c.requires.1)))))
     (λ c. omega arith) (λ c. omega arith)
     -- loop-again
-    (λ c. many-turns _ _ _ _ before-next c.loop-turns.invariant c.kind_here-kind.ensures.1
-    (eq-eqb _ _ (sym c.binding_of.ensures.1 ∙ c.if-binding_of-binding.false)) c.op-a.ensures.1 c.op-a.auto.s (omega arith))
+    (λ c. many-turns _ _ _ _ before-next c.loop.invariant c.kind_here-kind.ensures.1
+    (eq-eqb _ _ (sym c.binding_of.ensures.1 ∙ c.if-binding_of-binding.false)) c.op-a.ensures.1 c.op-a.auto.s (omega arith) (omega arith))
     (λ c. omega arith)
-    (λ c. many-spent _ _ _ _ before_last (wordless no-operation-words) c.further_most-turns.ensures.1 c.loop-turns.invariant
+    (λ c. many-spent _ _ _ _ before_last (wordless no-operation-words) c.further_most-end.ensures.1 c.loop.invariant
     (omega arith))
 
 abbrev pub term-cs : ℕ → Calls cycle.Lts-term.Claims

@@ -2,7 +2,7 @@
 use Rattle.tree.proofs.phrases.+phrases as cycle
 use Rattle.language.specs.Tree as T
 use Rattle.language.specs.Commands as C
-use Rattle.laws.proofs.Basics.{ℕ, refl, sym, ap, ◌∙◌, arith}
+use Rattle.laws.proofs.Basics.{ℕ, ◌-◌, refl, sym, ap, ◌∙◌, arith}
 use Rattle.language.specs.Binding.{is_repeat}
 use Rattle.language.specs.Grammar.{within, readers}
 use Rattle.language.specs.Reader.{many_up_to}
@@ -22,7 +22,7 @@ use Rattle.tree.proofs.Symbols.{lies-still}
 use Rattle.tree.specs.Encoding.{encode_repeats}
 use Rattle.tree.specs.Reads.{free_of}
 use Rattle.tree.proofs.Wholes.{leaves, of-kind, ◌from◌, ◌with◌, ◌adding◌, ◌setting◌}
-use cycle.Proof.Ranks.{Calls, also-rank, arg-rank, at, bare-rank, begin-item, begins-command, below, block-rank, body-rank, calls-11, calls-4}
+use cycle.Proof.Ranks.{Calls, calls-3, also-rank, arg-rank, at, bare-rank, begin-item, begins-command, below, block-rank, body-rank, calls-11, calls-4}
 use cycle.Proof.Ranks.{calls-5, calls-6, calls-7, calls-8, cases-rank, cmd-rank, expect, expr_rank, form-rank, forms-rank, free-of, give-rank}
 use cycle.Proof.Ranks.{goes-on-assignment, is_call, is-guard, is-label, is-leave, is-repeat, kind-here, label, labels, leave, saturating-sub, node, pick-rank}
 use cycle.Proof.Ranks.{place_here, plain-rank, redo-rank, refuse, rest-rank, set-rank, set-size, step-rank, test-rank, when-rank}
@@ -114,34 +114,32 @@ redo-ok t = cycle.Lts-redo.spec (redo-cs t).claims (at redo-rank t) redo-rank.po
     c.plain-body.ensures.1) refl)
 
 abbrev pub forms-cs : ℕ → Calls cycle.Lts-forms.Claims
-forms-cs t = calls-4 saturating-sub kind-here is-repeat (below form-rank t)
+forms-cs t = calls-3 kind-here is-repeat (below form-rank t)
 
-abbrev forms-inv : cycle.Lts-forms.invariant-loop-turns
-forms-inv s₀ n levels turns₀ a₀ s turns a =
-    SoFar (Before encode_repeats) (many_up_to turns₀ T.no_repeats is_repeat (C.repeat_form (readers (within levels))))
-    (many_up_to turns T.no_repeats is_repeat (C.repeat_form (readers (within levels)))) s₀ s n a₀ a
+abbrev forms-inv : cycle.Lts-forms.invariant-loop
+forms-inv s₀ n levels a₀ counter₀ s a counter =
+    SoFar (Before encode_repeats) (many_up_to (n - 1) T.no_repeats is_repeat (C.repeat_form (readers (within levels))))
+    (many_up_to (n - counter) T.no_repeats is_repeat (C.repeat_form (readers (within levels)))) s₀ s n a₀ a
 
-abbrev forms-turns : cycle.Lts-forms.decreases-loop-turns
-forms-turns s₀ n levels turns₀ a₀ s turns a = turns
+abbrev forms-turns : cycle.Lts-forms.decreases-loop
+forms-turns s₀ n levels a₀ counter₀ s a counter = n - counter
 
 pub forms-ok : {M : Type 1} (t : ℕ) → cycle.Lts-forms.Closed (forms-cs t).claims (at forms-rank t) forms-rank.post M
-forms-ok t = cycle.Lts-forms.spec (forms-cs t).claims (at forms-rank t) forms-rank.post forms-inv forms-turns (λ c κs. tt)
+forms-ok t = cycle.Lts-forms.spec (forms-cs t).claims (at forms-rank t) forms-rank.post forms-inv forms-turns
     (λ c. so-begins c.requires.1 before-first)
-    (λ c κs. ready-leaves c.loop-turns.invariant.room c.loop-turns.invariant.same refl
-    c.requires.1) (λ c κs. tt)
+    (λ c κs. ready-leaves c.loop.invariant.room c.loop.invariant.same refl c.requires.1) (λ c κs. tt) (λ c. omega arith)
+    -- returns
+    (λ c. many-ends _ _ _ _ before_last (wordless no-repeat-words) refl c.loop.invariant
+    c.kind_here-kind.ensures.1 (sym c.is_repeat.ensures.1 ∙ c.if-not-is_repeat.true))
     -- form-requires
-    (λ c κs. pair (omega arith) (pair (ready-leaves c.loop-turns.invariant.room c.loop-turns.invariant.same refl c.requires.1)
-    (repeat-positive _ c.is_repeat.ensures.1 c.if-is_repeat.true)))
+    (λ c κs. pair (omega arith) (pair (ready-leaves c.loop.invariant.room c.loop.invariant.same refl c.requires.1)
+    (repeat-positive _ c.is_repeat.ensures.1 c.if-not-is_repeat.false)))
     (λ c. omega arith) (λ c. omega arith)
     -- loop-again
-    (λ c. many-turns _ _ _ _ before-next c.loop-turns.invariant c.kind_here-kind.ensures.1 (sym c.is_repeat.ensures.1 ∙ c.if-is_repeat.true)
-    c.form-a.ensures.1 c.form-a.auto.s (omega arith))
+    (λ c. many-turns _ _ _ _ before-next c.loop.invariant c.kind_here-kind.ensures.1 (sym c.is_repeat.ensures.1 ∙ c.if-not-is_repeat.false)
+    c.form-a.ensures.1 c.form-a.auto.s (omega arith) (omega arith))
     (λ c. omega arith)
-    -- returns
-    (λ c. many-ends _ _ _ _ before_last (wordless no-repeat-words) c.saturating_sub-turns.ensures.1 c.loop-turns.invariant
-    c.kind_here-kind.ensures.1 (sym c.is_repeat.ensures.1 ∙ c.if-is_repeat.false))
-    (λ c. omega arith)
-    (λ c. many-spent _ _ _ _ before_last (wordless no-repeat-words) c.saturating_sub-turns.ensures.1 c.loop-turns.invariant (omega arith))
+    (λ c. many-spent _ _ _ _ before_last (wordless no-repeat-words) refl c.loop.invariant (omega arith))
 
 abbrev pub form-cs : ℕ → Calls cycle.Lts-form.Claims
 form-cs t = calls-5 free-of expect begin-item (below expr_rank t) set-size

@@ -3,7 +3,7 @@ use Rattle.tree.proofs.phrases.+phrases as cycle
 use Rattle.language.specs.Tree as T
 use Rattle.language.specs.Expressions as E
 use Rattle.language.specs.Commands as C
-use Rattle.laws.proofs.Basics.{ℕ, ◌+◌, ◌-◌, ◌≡◌, refl, sym, ◌∙◌, arith, eq-eqb, ne_eqb}
+use Rattle.laws.proofs.Basics.{ℕ, ◌+◌, ◌-◌, ◌≤◌, refl, sym, ◌∙◌, arith, eq-eqb, ne_eqb}
 use Rattle.language.specs.Binding.{is_suffix}
 use Rattle.language.specs.Grammar.{within, readers}
 use Rattle.language.specs.Reader.{many_up_to, is_comma}
@@ -15,10 +15,10 @@ use Rattle.tree.proofs.Classes.{monadic-positive}
 use Rattle.tree.proofs.Helpers.{low}
 use Rattle.tree.proofs.Lets.{value-turn, value-last, value-next}
 use Rattle.tree.proofs.Lists.{Before}
-use Rattle.tree.proofs.Loops.{SoFar, before-first, before_last, wordless, so-begins, so-turns, so-ends, many-turns, many-ends, many-spent}
+use Rattle.tree.proofs.Loops.{SoFar, before-first, before_last, wordless, so-begins, so-starts, so-turns, so-ends, many-turns, many-ends, many-spent}
 use Rattle.tree.proofs.Readers.{bracketed-read, valof-read, argument-read, index_read, arguments-read, no_arguments, some-arguments}
 use Rattle.tree.proofs.Readers.{further-reads}
-use Rattle.tree.proofs.Rooms.{past-symbol, past-part, past-expression, left, taken, room-left, leaves-less, ready-leaves, ready-takes, ◌plus◌}
+use Rattle.tree.proofs.Rooms.{past-symbol, past-part, past-expression, taken, room-left, leaves-less, ready-leaves, ready-takes, ◌plus◌}
 use Rattle.tree.proofs.Rooms.{ready-part, item-low, size_small, measured}
 use Rattle.tree.proofs.Steps.{pair, again}
 use Rattle.tree.proofs.Symbols.{lies-still}
@@ -112,33 +112,30 @@ tail-ok t = cycle.Lts-tail.spec (tail-cs t).claims (at tail-rank t) tail-rank.po
     (λ c. suffix-index _ c.if-kind-eq-OPEN.false c.index.ensures.1)
 
 abbrev pub tails-cs : ℕ → Calls cycle.Lts-tails.Claims
-tails-cs t = calls-4 saturating-sub kind-here is-suffix (below tail-rank t)
+tails-cs t = calls-3 kind-here is-suffix (below tail-rank t)
 
-abbrev tails-inv : cycle.Lts-tails.invariant-loop-turns
-tails-inv s₀ n levels first turns₀ call₀ a₀ s turns call a =
-    SoFar (EndedSoFar call₀ call) (many_up_to turns₀ T.no_suffixes is_suffix (E.suffix (within levels)))
-    (many_up_to turns T.no_suffixes is_suffix (E.suffix (within levels))) s₀ s n a₀ a
+abbrev tails-inv : cycle.Lts-tails.invariant-loop
+tails-inv s₀ n levels first call₀ a₀ counter₀ s call a counter =
+    SoFar (EndedSoFar call₀ call) (many_up_to (n - 1) T.no_suffixes is_suffix (E.suffix (within levels)))
+    (many_up_to (n - counter) T.no_suffixes is_suffix (E.suffix (within levels))) s₀ s n a₀ a
 
-abbrev tails-turns : cycle.Lts-tails.decreases-loop-turns
-tails-turns s₀ n levels first turns₀ call₀ a₀ s turns call a = turns
+abbrev tails-turns : cycle.Lts-tails.decreases-loop
+tails-turns s₀ n levels first call₀ a₀ counter₀ s call a counter = n - counter
 
 pub tails-ok : {M : Type 1} (t : ℕ) → cycle.Lts-tails.Closed (tails-cs t).claims (at tails-rank t) tails-rank.post M
-tails-ok t = cycle.Lts-tails.spec (tails-cs t).claims (at tails-rank t) tails-rank.post tails-inv tails-turns (λ c κs. tt)
+tails-ok t = cycle.Lts-tails.spec (tails-cs t).claims (at tails-rank t) tails-rank.post tails-inv tails-turns
     (λ c. so-begins c.requires.1 suffix-first)
-    (λ c κs. ready-leaves c.loop-turns.invariant.room c.loop-turns.invariant.same refl
-    c.requires.1) (λ c κs. tt)
-    (λ c κs. pair (omega arith) (ready-leaves c.loop-turns.invariant.room
-    c.loop-turns.invariant.same refl
-    c.requires.1)) (λ c. omega arith) (λ c. omega arith)
-    -- loop-again
-    (λ c. many-turns _ _ _ _ suffix-next c.loop-turns.invariant c.kind_here-kind.ensures.1 (sym c.is_suffix.ensures.1 ∙ c.if-is_suffix.true)
-    c.tail-a.ensures.1 c.tail-a.auto.s (omega arith))
-    (λ c. omega arith)
+    (λ c κs. ready-leaves c.loop.invariant.room c.loop.invariant.same refl c.requires.1) (λ c κs. tt) (λ c. omega arith)
     -- returns
-    (λ c. many-ends _ _ _ _ suffix_last no-suffix-ended c.saturating_sub-turns.ensures.1 c.loop-turns.invariant
-    c.kind_here-kind.ensures.1 (sym c.is_suffix.ensures.1 ∙ c.if-is_suffix.false))
+    (λ c. many-ends _ _ _ _ suffix_last no-suffix-ended refl c.loop.invariant
+    c.kind_here-kind.ensures.1 (sym c.is_suffix.ensures.1 ∙ c.if-not-is_suffix.true))
+    (λ c κs. pair (omega arith) (ready-leaves c.loop.invariant.room c.loop.invariant.same refl c.requires.1))
+    (λ c. omega arith) (λ c. omega arith)
+    -- loop-again
+    (λ c. many-turns _ _ _ _ suffix-next c.loop.invariant c.kind_here-kind.ensures.1 (sym c.is_suffix.ensures.1 ∙ c.if-not-is_suffix.false)
+    c.tail-a.ensures.1 c.tail-a.auto.s (omega arith) (omega arith))
     (λ c. omega arith)
-    (λ c. many-spent _ _ _ _ suffix_last no-suffix-ended c.saturating_sub-turns.ensures.1 c.loop-turns.invariant (omega arith))
+    (λ c. many-spent _ _ _ _ suffix_last no-suffix-ended refl c.loop.invariant (omega arith))
 
 abbrev pub call-cs : ℕ → Calls cycle.Lts-call.Claims
 call-cs t = calls-5 refuse free-of expect (below pass-rank t) close-item
@@ -189,50 +186,49 @@ arg-ok t = cycle.Lts-arg.spec (arg-cs t).claims (at arg-rank t) arg-rank.post (�
 abbrev pub also-cs : ℕ → Calls cycle.Lts-also.Claims
 also-cs t = calls-3 kind-here expect (below arg-rank t)
 
-abbrev also-inv : cycle.Lts-also.invariant-loop-turns
-also-inv s₀ n levels turns₀ count₀ a₀ s turns count a =
-    SoFar (CountedSoFar count) (many_up_to turns₀ T.no_expressions is_comma (a_further levels)) (many_up_to turns T.no_expressions is_comma (a_further levels))
-    s₀ s n a₀ a × (count + turns ≡ count₀ + turns₀)
+abbrev also-inv : cycle.Lts-also.invariant-loop-count
+also-inv s₀ n levels a₀ count₀ s a count =
+    SoFar (CountedSoFar count) (many_up_to n T.no_expressions is_comma (a_further levels)) (many_up_to (n - count) T.no_expressions is_comma (a_further levels))
+    s₀ s n a₀ a × (count ≤ n)
 
-abbrev also-turns : cycle.Lts-also.decreases-loop-turns
-also-turns s₀ n levels turns₀ count₀ a₀ s turns count a = turns
+abbrev also-turns : cycle.Lts-also.decreases-loop-count
+also-turns s₀ n levels a₀ count₀ s a count = n - count
 
 pub also-ok : {M : Type 1} (t : ℕ) → cycle.Lts-also.Closed (also-cs t).claims (at also-rank t) also-rank.post M
 also-ok t = cycle.Lts-also.spec (also-cs t).claims (at also-rank t) also-rank.post also-inv also-turns
-    (λ c. (so-begins c.requires.1 expression-first, refl))
-    (λ c κs. ready-leaves c.loop-turns.invariant.0.room c.loop-turns.invariant.0.same refl
+    (λ c. (so-starts (λ u. many_up_to u T.no_expressions is_comma (a_further c.args.levels)) c.requires.1 expression-first (omega arith), omega arith))
+    (λ c κs. ready-leaves c.loop-count.invariant.0.room c.loop-count.invariant.0.same refl
     c.requires.1) (λ c. omega arith)
-    (λ c. many-ends _ _ _ _ expression-last no-expression-counted refl c.loop-turns.invariant.0
+    (λ c. many-ends _ _ _ _ (expression-last refl) no-expression-counted refl c.loop-count.invariant.0
     c.kind_here-kind.ensures.1 (ne_eqb _ _ c.if-kind-ne-COMMA.true)) (λ c κs. pair c.kind_here-kind.ensures.0 (omega arith))
-    (λ c κs. pair (omega arith) (past-symbol refl c.expect-comma.ensures)) (λ c. omega arith) (λ c. omega arith) (λ c. omega arith)
+    (λ c κs. pair (omega arith) (past-symbol refl c.expect-comma.ensures)) (λ c. omega arith) (λ c. omega arith)
     -- loop-again
-    (λ c. pair (many-turns _ _ _ _ expression-next c.loop-turns.invariant.0 c.kind_here-kind.ensures.1 (eq-eqb _ _ c.if-kind-ne-COMMA.false)
-    (at-any (further-reads _ c.expect-comma.ensures.1 c.arg-a.ensures.1)) c.arg-a.auto.s (omega arith))
-    (omega (arith, c.loop-turns.invariant.1)))
-    (λ c. omega arith) (λ c. many-spent _ _ _ _ expression-last no-expression-counted refl c.loop-turns.invariant.0 (omega arith))
+    (λ c. pair (many-turns _ _ _ _ expression-next c.loop-count.invariant.0 c.kind_here-kind.ensures.1 (eq-eqb _ _ c.if-kind-ne-COMMA.false)
+    (at-any (further-reads _ c.expect-comma.ensures.1 c.arg-a.ensures.1)) c.arg-a.auto.s (omega arith) (omega arith)) (omega arith))
+    (λ c. omega arith) (λ c. many-spent _ _ _ _ (expression-last (omega arith)) no-expression-counted refl c.loop-count.invariant.0 (omega arith))
 
 abbrev pub rest-cs : ℕ → Calls cycle.Lts-rest.Claims
 rest-cs t = calls-2 expect (below arg-rank t)
 
-abbrev rest-inv : cycle.Lts-rest.invariant-loop-left
-rest-inv s₀ n levels number left₀ a₀ s left a =
-    SoFar (Before encode_expressions) (C.further (readers (within levels)) left₀) (C.further (readers (within levels)) left) s₀ s n a₀ a
+abbrev rest-inv : cycle.Lts-rest.invariant-loop
+rest-inv s₀ n levels number a₀ counter₀ s a counter =
+    SoFar (Before encode_expressions) (C.further (readers (within levels)) number) (C.further (readers (within levels)) (number - counter)) s₀ s n a₀ a
 
-abbrev rest-turns : cycle.Lts-rest.decreases-loop-left
-rest-turns s₀ n levels number left₀ a₀ s left a = left
+abbrev rest-turns : cycle.Lts-rest.decreases-loop
+rest-turns s₀ n levels number a₀ counter₀ s a counter = number - counter
 
 pub rest_ok : {M : Type 1} (t : ℕ) → cycle.Lts-rest.Closed (rest-cs t).claims (at rest-rank t) rest-rank.post M
 rest_ok t =
-    cycle.Lts-rest.spec (rest-cs t).claims (at rest-rank t) rest-rank.post rest-inv rest-turns (λ c. so-begins c.requires.1 before-first)
-    (λ c κs. pair (ready-leaves c.loop-left.invariant.room c.loop-left.invariant.same refl
+    cycle.Lts-rest.spec (rest-cs t).claims (at rest-rank t) rest-rank.post rest-inv rest-turns (λ c. so-starts (λ u. C.further (readers (within c.args.levels)) u) c.requires.1 before-first (omega arith))
+    (λ c κs. pair (ready-leaves c.loop.invariant.room c.loop.invariant.same refl
     c.requires.1) (omega arith))
     (λ c κs. pair (omega arith) (past-symbol refl c.expect-comma.ensures)) (λ c. omega arith) (λ c. omega arith)
     -- loop-again
-    (λ c. so-turns c.loop-left.invariant
-    (C.further (readers (within c.args.levels)) (c.loop-left.left - 1)) value-next
+    (λ c. so-turns c.loop.invariant
+    (C.further (readers (within c.args.levels)) (c.args.number - (c.loop.counter + 1))) value-next
     (further-reads _ c.expect-comma.ensures.1 c.arg-a.ensures.1) c.arg-a.auto.s
-    (λ src l at free e. value-turn c.args.levels src c.loop-left.left at (omega arith)))
-    (λ c. omega arith) (λ c. so-ends c.loop-left.invariant T.no_expressions before_last (wordless no-expression-words)
+    (λ src l at free e. value-turn c.args.levels src (c.args.number - c.loop.counter) at (omega arith) (omega arith)))
+    (λ c. omega arith) (λ c. so-ends c.loop.invariant T.no_expressions before_last (wordless no-expression-words)
     (λ src l at free e. value-last c.args.levels src _ at (omega arith)))
 
 abbrev pub index-cs : ℕ → Calls cycle.Lts-index.Claims
