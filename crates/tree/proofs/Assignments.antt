@@ -1,4 +1,5 @@
 -- Assignments and calls: what their parts make together.
+use Rattle.text.specs.declared.faults.Fault.TheVariants as V
 use Rattle.laws.proofs.Basics.{ℕ, ◌+◌, ◌-◌, ◌≡◌, refl, sym, ap, subst, ◌∙◌, List, [], ◌++◌, append_assoc, append-nil, Bool, true, false, length}
 use Rattle.laws.proofs.Basics.{length-append, arith}
 use Rattle.language.specs.Kinds as K
@@ -69,7 +70,7 @@ module _ (src : Source) (size x : ℕ) {s s₁ : List ℕ} {r r₁ : State} {kin
     ) refl) (nothing (record { same = append-nil (encode e) })))
 
     pub no_call :
-        {r₂ : State} → call ≡ false → Refuses 6 r₁ r₂ → Passes r₁ r₂ → Reads (C.assignment_or_call (readers (within x)) src) encode_unlabelled s s₁ r r₂
+        {r₂ : State} → call ≡ false → Refuses V.Unexpected r₁ r₂ → Passes r₁ r₂ → Reads (C.assignment_or_call (readers (within x)) src) encode_unlabelled s s₁ r r₂
     unfolding C.assignment_or_call C.after_expression C.call_command unexpected
     no_call h g p = look size encode d p (λ e v q₁. stopped (λ at free y. rw (
       sym (ap goes_on_assignment (k.here at free y)) ∙ q,

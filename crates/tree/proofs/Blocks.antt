@@ -1,4 +1,5 @@
 -- Labels, the commands that hold others, and blocks: what each construct's parts make together.
+use Rattle.text.specs.declared.faults.Fault.TheVariants as V
 use Rattle.laws.proofs.Basics.{ℕ, ◌+◌, ◌-◌, ◌<◌, ◌≤◌, ◌≡◌, refl, sym, ap, subst, ◌∙◌, List, [], ◌∷◌, ◌++◌, append_assoc, Bool, true, false, cond}
 use Rattle.laws.proofs.Basics.{length, length-append, eqb, arith, eq-eqb, ne_eqb}
 use Rattle.language.specs.Kinds as K
@@ -36,7 +37,7 @@ with-labels ls c = T.command ls c.body c.forms
 module _ (x : ℕ) (labels : Bool) {s : List ℕ} {n : ℕ} {r : State} {kind : ℕ} (kinds : KindsHere s n r kind) {b : Bool}
     (e : b ≡ begins_command kind) where
   module _ (q : b ≡ true) where
-    pub body-shut : {r' : State} → x ≡ 0 → Refusing 7 s n r r' → Reading 0 (body_after labels x) (Encodes encode_repeated_only) s s n r r'
+    pub body-shut : {r' : State} → x ≡ 0 → Refusing V.TooDeep s n r r' → Reading 0 (body_after labels x) (Encodes encode_repeated_only) s s n r r'
     unfolding body_after opened opening
     body-shut z d =
         refused-at refl d kinds (λ src at h. rw (ap begins_command h ∙ sym e ∙ q) (ap (λ (i : Inside). opening i repeated_by src at) (shut_at x z)))
@@ -48,7 +49,7 @@ module _ (x : ℕ) (labels : Bool) {s : List ℕ} {n : ℕ} {r : State} {kind : 
     body_open z d = picked kinds _ (λ src at h. rw (ap begins_command h ∙ sym e ∙ q) (ap (λ (i : Inside). opening i repeated_by src at) (deeper x z))) d
 
   module _ (q : b ≡ false) where
-    pub body-none : {r' : State} → labels ≡ false → Refusing 6 s n r r' → Reading 0 (body_after labels x) (Encodes encode_repeated_only) s s n r r'
+    pub body-none : {r' : State} → labels ≡ false → Refusing V.Unexpected s n r r' → Reading 0 (body_after labels x) (Encodes encode_repeated_only) s s n r r'
     unfolding body_after unexpected
     body-none z d = refused-at refl d kinds (λ src at h. rw (ap begins_command h ∙ sym e ∙ q, z))
 

@@ -1,4 +1,5 @@
 -- What the last two entries of an expression's words say: its place, and whether it is a call.
+use Rattle.text.specs.declared.faults.Fault.{Fault}
 use Rattle.laws.proofs.Basics.{ℕ, ◌+◌, ◌-◌, ◌<◌, ◌≤◌, ◌≡◌, refl, sym, ap, ◌∙◌, List, [], ◌∷◌, ◌++◌, append_assoc, Bool, true, false, length, get_or}
 use Rattle.laws.proofs.Basics.{take, length-append, length-take-le, get_or-take, get_or-append-add, eqb, arith}
 use Rattle.laws.proofs.Cases.{contradiction}
@@ -81,7 +82,7 @@ module _ {s : List ℕ} {n : ℕ} {r : State} {at free : ℕ} (h : Ready 0 s n r
     place_is : get_or s (free - 2) 0 ≡ place_of x
     place_is = place-last before (recorded x).contents (recorded x).value (place_of x) (recorded x).kind s free at-end last-record
 
-  pub call-short : free < 1 → CallHere s r false
+  pub call-short : {call : Bool} → free < 1 → CallHere s r call
   call-short l = record { here = λ at' free' before x e' t. absurd (omega (arith, size_is at' free' before x e' t)) }
 
   pub call-kind : CallHere s r (eqb (get_or s (free - 1) 0) CALLED)
@@ -93,8 +94,8 @@ module _ {s : List ℕ} {n : ℕ} {r : State} {at free : ℕ} (h : Ready 0 s n r
   pub place-entry : PlaceHere s r (get_or s (free - 2) 0)
   place-entry = record { here = λ at' free' before x e' t. place_is at' free' before x e' t }
 
-pub call-refused : {s : List ℕ} {r : State} {k p : ℕ} {call : Bool} → r ≡ Refused k p → CallHere s r call
+pub call-refused : {s : List ℕ} {r : State} {k : Fault} {p : ℕ} {call : Bool} → r ≡ Refused k p → CallHere s r call
 call-refused e = record { here = λ at free before x e' t. contradiction cc }
 
-pub place-refused : {s : List ℕ} {r : State} {k p place : ℕ} → r ≡ Refused k p → PlaceHere s r place
+pub place-refused : {s : List ℕ} {r : State} {k : Fault} {p place : ℕ} → r ≡ Refused k p → PlaceHere s r place
 place-refused e = record { here = λ at free before x e' t. contradiction cc }

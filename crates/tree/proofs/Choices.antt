@@ -1,4 +1,7 @@
 -- Choices by the symbol here: what the next call reads is what is to be read.
+use Rattle.text.specs.Faults.{number_of}
+use Rattle.text.specs.declared.faults.Fault.TheVariants as V
+use Rattle.text.specs.declared.faults.Fault.{Fault}
 use Rattle.laws.proofs.Basics.{ℕ, zero, suc, ◌-◌, ◌≡◌, refl, sym, ap, ◌∙◌, List, [], ◌∷◌, Bool, true, false, cond, eqb, leb, arith, eq-eqb, ne_eqb}
 use Rattle.language.specs.Kinds as K
 use Rattle.language.specs.Reader.{Source, no, Reader, kind_at, the}
@@ -26,8 +29,8 @@ abbrev pub Expects : (kind : ℕ) → (s : List ℕ) → (n : ℕ) → State →
 Expects kind s n r r' = Reading 5 (the kind) (Encodes (λ _. [])) s s n r r'
 
 -- a refusal, as `refuse` makes it
-abbrev pub Refusing : (number : ℕ) → (s : List ℕ) → (n : ℕ) → State → State → Type 0
-Refusing number s n r r' = LeavesRoom 5 s s n r r' × Refuses number r r'
+abbrev pub Refusing : (fault : Fault) → (s : List ℕ) → (n : ℕ) → State → State → Type 0
+Refusing fault s n r r' = LeavesRoom 5 s s n r r' × Refuses fault r r'
 
 module _ {A : Type 0} {Says : A → List ℕ → Type 0} {k : ℕ} {s s' : List ℕ} {n : ℕ} {r r' : State} where
   pub at-any : {read : Reader A} {kind : ℕ} → Reading k read Says s s' n r r' → ReadingAt kind k read Says s s' n r r'
@@ -45,14 +48,14 @@ module _ {A : Type 0} {Says : A → List ℕ → Type 0} {k : ℕ} {s s' : List 
     picked read' e d = chosen read' e (at-any {read = read'} d)
 
 -- refused, whatever is to be read: no level is left
-module _ {A : Type 0} {Says : A → List ℕ → Type 0} {m number : ℕ} {s : List ℕ} {n : ℕ} {r r' : State} (few : leb m 5 ≡ true)
-    (d : Refusing number s n r r') where
+module _ {A : Type 0} {Says : A → List ℕ → Type 0} {m : ℕ} {fault : Fault} {s : List ℕ} {n : ℕ} {r r' : State} (few : leb m 5 ≡ true)
+    (d : Refusing fault s n r r') where
   pub refused-at :
-      {read : Reader A} {kind : ℕ} → KindsHere s n r kind → ((src : Source) (at : ℕ) → kind_at src at ≡ kind → read src at ≡ no number at)
+      {read : Reader A} {kind : ℕ} → KindsHere s n r kind → ((src : Source) (at : ℕ) → kind_at src at ≡ kind → read src at ≡ no (number_of fault) at)
       → Reading m read Says s s n r r'
   refused-at kinds e = (leaves-less d.0 few, λ src l. stopped (λ at free q. e src at (sym ((kinds src l).here at free q))) d.1)
 
-  pub refused-here : {read : Reader A} → ((src : Source) (at : ℕ) → read src at ≡ no number at) → Reading m read Says s s n r r'
+  pub refused-here : {read : Reader A} → ((src : Source) (at : ℕ) → read src at ≡ no (number_of fault) at) → Reading m read Says s s n r r'
   refused-here e = (leaves-less d.0 few, λ src l. stopped (λ at free q. e src at) d.1)
 
 pub shut_at : (x : ℕ) → x ≡ 0 → within x ≡ shut
@@ -60,7 +63,7 @@ unfolding within
 shut_at zero h = refl
 shut_at (suc x) h = absurd (omega arith)
 
-module _ (x : ℕ) (h : x ≡ 0) {s : List ℕ} {n : ℕ} {r r' : State} (d : Refusing 7 s n r r') where
+module _ (x : ℕ) (h : x ≡ 0) {s : List ℕ} {n : ℕ} {r r' : State} (d : Refusing V.TooDeep s n r r') where
   pub bracketed-shut : Reading 1 (E.bracketed (within x)) (Encodes encode) s s n r r'
   unfolding E.bracketed opening
   bracketed-shut = refused-here refl d (λ src at. ap (λ (i : Inside). E.bracketed i src at) (shut_at x h))

@@ -1,4 +1,5 @@
 -- Constants with a minus, and the choice.
+use Rattle.text.specs.declared.faults.Fault.TheVariants as V
 use Rattle.laws.proofs.Basics.{ℕ, ◌+◌, ◌-◌, ◌<◌, ◌≡◌, refl, sym, ap, ◌∙◌, List, [], ◌∷◌, ◌++◌, true, arith, ne_eqb}
 use Rattle.language.specs.Kinds as K
 use Rattle.language.specs.Tree as T
@@ -36,7 +37,7 @@ negated-name-read {first} size {value} {place} {lo} {s} {s₁} {s₂} {r} {r₁}
     (λ x q. added size a (record { same = ap (λ (z : ℕ). leaf value x K.NAME ++ (z ∷ 0 ∷ place ∷ K.MINUS ∷ [])) (omega arith) })))
 
 pub negative-shut :
-    (x : ℕ) {s : List ℕ} {n : ℕ} {r r' : State} → x ≡ 0 → Refusing 7 s n r r' → Reading 1 (E.negative (within x)) (Encodes encode_constant) s s n r r'
+    (x : ℕ) {s : List ℕ} {n : ℕ} {r r' : State} → x ≡ 0 → Refusing V.TooDeep s n r r' → Reading 1 (E.negative (within x)) (Encodes encode_constant) s s n r r'
 unfolding E.negative opening
 negative-shut x h d = refused-here refl d (λ src at. ap (λ (i : Inside). E.negative i src at) (shut_at x h))
 

@@ -4,6 +4,8 @@ use Rattle.laws.proofs.Basics.{length, get_or, take, drop, replicate, List·getD
 use Rattle.laws.proofs.Basics.{ltb-false}
 use Rattle.laws.proofs.Basics.{lt-ltb, le-ltb}
 use Rattle.laws.proofs.Cases.{by_cases, contradiction}
+use Rattle.text.specs.declared.faults.Fault.{Fault}
+use Rattle.text.specs.Faults.{number_of}
 use Rattle.language.specs.Symbols.{Symbol}
 use Rattle.language.specs.Reader.{Source, Out, ok, no, place_at}
 use Rattle.language.specs.Tree.{Program}
@@ -15,8 +17,10 @@ use Rattle.tree.specs.Read.{Within, ReadsTree}
 use Rattle.tree.proofs.Symbols.{lies-still}
 use Rattle.tree.specs.declared.scratch.State.{State}
 use Rattle.tree.specs.declared.scratch.State.TheVariants.{Read, Refused}
-use Rattle.tree.specs.declared.TreeRead.{TreeRead}
-use Rattle.tree.specs.declared.TreeRead.TheVariants.{TooShort, Read as ReadTo, Refused as RefusedAt}
+use Rattle.std.specs.Prelude.{Result, Ok, Err}
+use Rattle.tree.specs.Read.{short, read, refused, answer_by}
+use Rattle.tree.specs.declared.Unparsed.{Unparsed}
+use Rattle.tree.specs.declared.Unparsed.TheVariants as U
 
 -- the symbol that stands from an entry on
 abbrev symbol_from : List ℕ → ℕ → Symbol
@@ -101,11 +105,11 @@ starts s n h = let f = fit_is (length s) n h in
     record { placed = omega arith; above = omega arith; room = omega (arith, f); wide = omega (arith, f); small = f.1 }
 
 -- what is read
-pub tree-short : (s : List ℕ) (n size : ℕ) → too_short (length s) n ≡ true → ReadsTree s n size TooShort s
+pub tree-short : (s : List ℕ) (n size : ℕ) → too_short (length s) n ≡ true → ReadsTree s n size (Err U.TooShort) s
 unfolding tree_read tree_numbers tree_left
 tree-short s n size h = record {
-  answers = sym (ap (λ (b : Bool). cond b TooShort (answer_of (source_in s n size) n (tree_of (source_in s n size)))) h);
-  numbers = sym (ap (λ (b : Bool). cond b (numbers_of TooShort) (numbers_by (source_in s n size) n (tree_of (source_in s n size)))) h);
+  answers = sym (ap (λ (b : Bool). cond b short (answer_by (source_in s n size) n (tree_of (source_in s n size)))) h);
+  numbers = sym (ap (λ (b : Bool). cond b (numbers_of short) (numbers_by (source_in s n size) n (tree_of (source_in s n size)))) h);
   leaves = sym (ap (λ (b : Bool). cond b s (left_by n s (tree_of (source_in s n size)))) h);
   room = tt;
 }
@@ -125,19 +129,19 @@ cleared-is s s' s'' front free l h e c =
     let z : length s' - free ≡ length s - length front = omega (arith, ap length e, length-take-le free s' (omega arith)) in
     c ∙ ap (λ (m : ℕ). take free s' ++ replicate m 0) z ∙ ap (λ (w : List ℕ). w ++ replicate (length s - length front) 0) e
 
-told : (src : Source) (n : ℕ) (o : Out Program) → numbers_of (answer_of src n o) ≡ numbers_by src n o
+told : (src : Source) (n : ℕ) (o : Out Program) → numbers_of (answer_by src n o) ≡ numbers_by src n o
 told src n (ok p next) = refl
 told src n (no number at) = refl
 
 answered :
-    {s s'' : List ℕ} {n size : ℕ} {answer : TreeRead} → too_short (length s) n ≡ false → (o : Out Program) → tree_of (source_in s n size) ≡ o
-    → answer ≡ answer_of (source_in s n size) n o → s'' ≡ left_by n s o → Within (n * 8) answer → ReadsTree s n size answer s''
+    {s s'' : List ℕ} {n size : ℕ} {answer : Result ℕ Unparsed} → too_short (length s) n ≡ false → (o : Out Program) → tree_of (source_in s n size) ≡ o
+    → answer_of answer ≡ answer_by (source_in s n size) n o → s'' ≡ left_by n s o → Within (n * 8) (answer_of answer) → ReadsTree s n size answer s''
 unfolding tree_read tree_numbers tree_left
 answered {s} {n = n} {size} fit o e a w h = record {
-  answers = a ∙ ap (answer_of (source_in s n size) n) (sym e)
-      ∙ sym (ap (λ (b : Bool). cond b TooShort (answer_of (source_in s n size) n (tree_of (source_in s n size)))) fit);
+  answers = a ∙ ap (answer_by (source_in s n size) n) (sym e)
+      ∙ sym (ap (λ (b : Bool). cond b short (answer_by (source_in s n size) n (tree_of (source_in s n size)))) fit);
   numbers = ap numbers_of a ∙ told (source_in s n size) n o ∙ ap (numbers_by (source_in s n size) n) (sym e)
-      ∙ sym (ap (λ (b : Bool). cond b (numbers_of TooShort) (numbers_by (source_in s n size) n (tree_of (source_in s n size)))) fit);
+      ∙ sym (ap (λ (b : Bool). cond b (numbers_of short) (numbers_by (source_in s n size) n (tree_of (source_in s n size)))) fit);
   leaves = w ∙ ap (left_by n s) (sym e) ∙ sym (ap (λ (b : Bool). cond b s (left_by n s (tree_of (source_in s n size)))) fit);
   room = h;
 }
@@ -145,10 +149,10 @@ answered {s} {n = n} {size} fit o e a w h = record {
 module _ {s s' s'' : List ℕ} {n size : ℕ} (fit : too_short (length s) n ≡ false) (same : length s' ≡ length s) where
   wrote :
       (next free : ℕ) → Wrote (program (source_in s n size) 0) (Encodes encode_program) (n * 3) s s' next free → free ≤ n * 8
-      → s'' ≡ take free s' ++ replicate (length s' - free) 0 → ReadsTree s n size (ReadTo free) s''
+      → s'' ≡ take free s' ++ replicate (length s' - free) 0 → ReadsTree s n size (Ok free) s''
   unfolding tree_of
   wrote next free w h c = let q : free ≡ n * 3 + length (encode_program w.tree) = w.size ∙ ap (λ (x : List ℕ). n * 3 + length x) w.says.same in
-      answered fit (ok w.tree next) w.is (ap ReadTo q)
+      answered fit (ok w.tree next) w.is (ap read q)
       (cleared-is s s' s'' (take (n * 3) s ++ encode_program w.tree) free same (omega (arith, fit_is (length s) n fit))
       (w.written ∙ ap (λ (x : List ℕ). take (n * 3) s ++ x) w.says.same) c)
       h
@@ -156,18 +160,18 @@ module _ {s s' s'' : List ℕ} {n size : ℕ} (fit : too_short (length s) n ≡ 
   module _ {r : State} (d : Reads (program (source_in s n size)) encode_program s s' (Read 0 (n * 3)) r) where
     pub tree-read :
         {next free : ℕ} → LeavesRoom 0 s s' n (Read 0 (n * 3)) r → r ≡ Read next free → s'' ≡ take free s' ++ replicate (length s' - free) 0
-        → ReadsTree s n size (ReadTo free) s''
+        → ReadsTree s n size (Ok free) s''
     tree-read {next} {free} f e c =
         wrote next free (subst (λ (x : State). FollowsBy (program (source_in s n size)) (Encodes encode_program) s s' (Read 0 (n * 3)) x) e d.by)
         (within f e) c
 
     pub tree-refused :
-        {number at place : ℕ} → r ≡ Refused number at → take (n * 3) s' ≡ take (n * 3) s → place ≡ place_at (source_in s' n size) at
-        → s'' ≡ take (n * 3) s' ++ replicate (length s' - n * 3) 0 → ReadsTree s n size (RefusedAt number place) s''
+        {fault : Fault} {at place : ℕ} → r ≡ Refused fault at → take (n * 3) s' ≡ take (n * 3) s → place ≡ place_at (source_in s' n size) at
+        → s'' ≡ take (n * 3) s' ++ replicate (length s' - n * 3) 0 → ReadsTree s n size (Err (U.Refused fault place)) s''
     unfolding tree_of
-    tree-refused {number} {at} {place} e k p c =
-        answered fit (no number at) (subst (λ (x : State). FollowsBy (program (source_in s n size)) (Encodes encode_program) s s' (Read 0 (n * 3)) x) e
-        d.by) (ap (RefusedAt number) (p ∙ place_kept s s' n size at k))
+    tree-refused {fault} {at} {place} e k p c =
+        answered fit (no (number_of fault) at) (subst (λ (x : State). FollowsBy (program (source_in s n size)) (Encodes encode_program) s s' (Read 0 (n * 3)) x) e
+        d.by) (ap (refused (number_of fault)) (p ∙ place_kept s s' n size at k))
         (cleared-is s s' s'' (take (n * 3) s) (n * 3) same (omega (arith, fit_is (length s) n fit)) k c) tt
 
 -- the tree's end is an entry of scratch

@@ -11,8 +11,8 @@ use Rattle.symbols.specs.Read.{entries, outcome}
 use Rattle.tree.specs.Encoding.{CALLED, SUFFIXED, DYADIC, LABELLED, MONADIC, suffixed_kind, encode_name, encode_names, encode_positive}
 use Rattle.tree.specs.Encoding.{encode_constant, encode_labels, labelled, repeated, encode, encode_body, body_word, encode_functions, encode_program}
 use Rattle.tree.specs.Read.{decoded, source_in, too_short, tree_read, tree_left}
-use Rattle.tree.specs.declared.TreeRead.{TreeRead}
-use Rattle.tree.specs.declared.TreeRead.TheVariants as Answers
+use Rattle.tree.specs.Read as Answers
+use Rattle.tree.specs.Read.{Answer}
 use Rattle.tree.proofs.Stages.{enough, as_answer, stages}
 
 -- the entries of a text's tree; none if it is refused
@@ -31,11 +31,11 @@ unfolding tree_in
 body_in size text = take size (drop 8 (tree_in text))
 
 -- what is answered for a text, with so many entries of scratch
-abbrev then : (room size : ℕ) → Symbols → TreeRead
+abbrev then : (room size : ℕ) → Symbols → Answer
 then room size (good ss) = tree_read (outcome room (good ss)).scratch (length ss) size
-then room size (faulty number place) = Answers.Refused number place
+then room size (faulty number place) = Answers.refused number place
 
-unfoldable answer_with : (room : ℕ) → (text : List ℕ) → TreeRead
+unfoldable answer_with : (room : ℕ) → (text : List ℕ) → Answer
 unfolding tree_in decoded source_in too_short tree_read entries
 answer_with room text = then room (length text) (symbols_of text)
 
@@ -52,7 +52,7 @@ unfolding symbols_in entries
 whole_before = refl
 
 -- there 18 entries of symbols and 16 of the tree end at 34
-whole : tree_read (six ++ replicate 94 0) 6 11 ≡ Answers.Read 34
+whole : tree_read (six ++ replicate 94 0) 6 11 ≡ Answers.read 34
 unfolding answer_with
 whole = refl
 
@@ -128,26 +128,26 @@ not = refl
 -- ---- refused
 
 -- a second relation after NOT's operand, as without NOT
-relation : answer_with 200 (bytes "LET F() = NOT A=B=C") ≡ Answers.Refused 6 17
+relation : answer_with 200 (bytes "LET F() = NOT A=B=C") ≡ Answers.refused 6 17
 unfolding answer_with
 relation = refl
 
 -- an expression is wanted at the end: 6, and the place is the text's length
-at-end : answer_with 136 (bytes "LET F() =") ≡ Answers.Refused 6 9
+at-end : answer_with 136 (bytes "LET F() =") ≡ Answers.refused 6 9
 unfolding answer_with
 at-end = refl
 
 -- 64 minuses nest; the 65th is 7, at its place
-levels-64 : answer_with 648 (bytes "LET F()=" ++ (times 64 (bytes "-") ++ bytes "A")) ≡ Answers.Read 482
+levels-64 : answer_with 648 (bytes "LET F()=" ++ (times 64 (bytes "-") ++ bytes "A")) ≡ Answers.read 482
 unfolding answer_with times
 levels-64 = refl
 
-levels-65 : answer_with 656 (bytes "LET F()=" ++ (times 65 (bytes "-") ++ bytes "A")) ≡ Answers.Refused 7 72
+levels-65 : answer_with 656 (bytes "LET F()=" ++ (times 65 (bytes "-") ++ bytes "A")) ≡ Answers.refused 7 72
 unfolding answer_with times
 levels-65 = refl
 
 -- one entry fewer than 8 * 6 + 64
-one-entry-short : tree_read (six ++ replicate 93 0) 6 11 ≡ Answers.TooShort
+one-entry-short : tree_read (six ++ replicate 93 0) 6 11 ≡ Answers.short
 unfolding answer_with
 one-entry-short = refl
 

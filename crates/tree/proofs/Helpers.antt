@@ -1,5 +1,6 @@
 -- Laws of scratch: what the functions that read and write single entries leave.
-use Rattle.laws.proofs.Basics.{ℕ, zero, suc, ◌+◌, ◌-◌, ◌*◌, ◌^◌, ◌<◌, ◌≤◌, ◌≡◌, refl, sym, ap, ◌∙◌, List, [], ◌∷◌, ◌++◌, append_assoc, length, set}
+use Rattle.text.specs.declared.faults.Fault.{Fault}
+use Rattle.laws.proofs.Basics.{ℕ, zero, suc, ◌+◌, ◌-◌, ◌*◌, ◌^◌, ◌<◌, ◌≤◌, ◌≡◌, refl, sym, ap, subst, ◌∙◌, List, [], ◌∷◌, ◌++◌, append_assoc, length, set}
 use Rattle.laws.proofs.Basics.{take, length-set, length-take-le, take-suc-set, arith}
 use lib.Seq.{take-take, take-append-le}
 use Rattle.tree.specs.Reads.{Ready, LeavesRoom, TakesRoom, Refuses, Adds, SetsSize, next_of, free_of, low_of, live, reach, record_from, behind_from}
@@ -53,7 +54,7 @@ module _ {r : State} {at free : ℕ} (e : r ≡ Read at free) where
   unfolding next_of low_of live reach
   facts-read n = (ap next_of e, ap (low_of n) e, ap live e, ap (reach n) e)
 
-pub free-of-refused : {r : State} {k p : ℕ} → r ≡ Refused k p → (size : ℕ) → free_of size r ≡ size
+pub free-of-refused : {r : State} {k : Fault} {p : ℕ} → r ≡ Refused k p → (size : ℕ) → free_of size r ≡ size
 unfolding free_of
 free-of-refused e size = ap (free_of size) e
 
@@ -62,7 +63,7 @@ read-facts :
     → (next_of (Read at free) ≡ at) × (low_of n (Read at free) ≡ free) × (live (Read at free) ≡ 1) × (reach n (Read at free) ≡ free + 5 * (n - at))
 read-facts n at free = facts-read {r = Read at free} refl n
 
-refused-facts : (n k p : ℕ) → (next_of (Refused k p) ≡ 0) × (low_of n (Refused k p) ≡ n * 3) × (live (Refused k p) ≡ 0) × (reach n (Refused k p) ≡ 0)
+refused-facts : (n : ℕ) (k : Fault) (p : ℕ) → (next_of (Refused k p) ≡ 0) × (low_of n (Refused k p) ≡ n * 3) × (live (Refused k p) ≡ 0) × (reach n (Refused k p) ≡ 0)
 unfolding next_of low_of live reach
 refused-facts n k p = (refl, refl, refl, refl)
 
@@ -88,7 +89,7 @@ base {m} {n} {s} {r} h = base_by n (length s) r h.above (omega (arith, h.wide))
 
 -- the room that a state has, and what it leaves
 module _ {m : ℕ} {s : List ℕ} {n : ℕ} {r : State} (h : Ready m s n r) where
-  pub refused-fits : {k p q : ℕ} → LeavesRoom k s s n r (Refused p q)
+  pub refused-fits : {k : ℕ} {p : Fault} {q : ℕ} → LeavesRoom k s s n r (Refused p q)
   refused-fits {k} {p} {q} = let f = refused-facts n p q in
       record {
         placed = omega (arith, f);
@@ -99,7 +100,7 @@ module _ {m : ℕ} {s : List ℕ} {n : ℕ} {r : State} (h : Ready m s n r) wher
         kept = refl;
       }
 
-  pub refused-grows : {k p q : ℕ} → TakesRoom k s s n r (Refused p q)
+  pub refused-grows : {k : ℕ} {p : Fault} {q : ℕ} → TakesRoom k s s n r (Refused p q)
   refused-grows {k} {p} {q} = let f = refused-facts n p q in
       record {
         placed = omega (arith, f);
@@ -141,6 +142,14 @@ module _ {m : ℕ} {s : List ℕ} {n : ℕ} {r : State} (h : Ready m s n r) wher
       added-adds = let q : nf ≡ free + length (words free) = omega arith in
           record { by = rw e (ap (λ (x : ℕ). Read at x) q, ap (λ (x : ℕ). take x s') (sym q) ∙ w) }
 
+-- a refusal stays, and so does the room
+module _ {s : List ℕ} {n : ℕ} {r : State} {p : Fault} {q : ℕ} (e : r ≡ Refused p q) {m k : ℕ} (h : Ready m s n r) where
+  pub refused-leaves : LeavesRoom k s s n r r
+  refused-leaves = subst (λ (x : State). LeavesRoom k s s n r x) (sym e) (refused-fits h)
+
+  pub refused-takes : TakesRoom k s s n r r
+  refused-takes = subst (λ (x : State). TakesRoom k s s n r x) (sym e) (refused-grows h)
+
 -- the entries that are written behind, and the state after them
 module _ {s : List ℕ} {n : ℕ} {r : State} {at free : ℕ} (e : r ≡ Read at free) where
   pub record-written :
@@ -164,13 +173,13 @@ module _ {s : List ℕ} {n : ℕ} {r : State} {at free : ℕ} (e : r ≡ Read at
     item-begun = let w = put2 s free 0 tag (room-is h e).0 in
         (added-grows h e (λ _. 0 ∷ tag ∷ []) _ 2 _ refl refl (omega arith) w, added-adds h e (λ _. 0 ∷ tag ∷ []) _ 2 _ refl refl (omega arith) w)
 
-pub adds-refused : {words : ℕ → List ℕ} {s s' : List ℕ} {r : State} {k p : ℕ} → r ≡ Refused k p → Adds words s s' r (Refused k p)
+pub adds-refused : {words : ℕ → List ℕ} {s s' : List ℕ} {r : State} {k : Fault} {p : ℕ} → r ≡ Refused k p → Adds words s s' r r
 adds-refused e = record { by = rw e refl }
 
-pub refuses-read : {number at free : ℕ} {r : State} → r ≡ Read at free → Refuses number r (Refused number at)
+pub refuses-read : {fault : Fault} {at free : ℕ} {r : State} → r ≡ Read at free → Refuses fault r (Refused fault at)
 refuses-read e = record { by = rw e refl }
 
-pub refuses-refused : {number k p : ℕ} {r : State} → r ≡ Refused k p → Refuses number r (Refused k p)
+pub refuses-refused : {fault k : Fault} {p : ℕ} {r : State} → r ≡ Refused k p → Refuses fault r r
 refuses-refused e = record { by = rw e refl }
 
 dead_by : (n : ℕ) (r : State) → reach n r < 2 ^ 32 → reach n r ≤ live r * 2 ^ 32
@@ -200,7 +209,7 @@ module _ {s : List ℕ} {n : ℕ} {r : State} {lo : ℕ} (h : Ready 0 s n r) (l 
   sized_past {at} {free} e q =
       record { by = rw e (sym (set_past (take free s) lo (free - lo - 2) (omega (arith, length-take-le free s (omega (arith, room-is h e)))))) }
 
-pub sized-refused : {lo : ℕ} {s s' : List ℕ} {r : State} {k p : ℕ} → r ≡ Refused k p → SetsSize lo s s' r
+pub sized-refused : {lo : ℕ} {s s' : List ℕ} {r : State} {k : Fault} {p : ℕ} → r ≡ Refused k p → SetsSize lo s s' r
 sized-refused e = record { by = rw e tt }
 
 pub itself : {m : ℕ} {s : List ℕ} {n : ℕ} {r : State} → Ready m s n r → LeavesRoom 0 s s n r r

@@ -1,4 +1,5 @@
 -- Symbols that are leaves of the tree.
+use Rattle.text.specs.declared.faults.Fault.TheVariants as V
 use Rattle.laws.proofs.Basics.{ℕ, ◌+◌, ◌-◌, ◌<◌, ◌≡◌, refl, sym, ap, ◌∙◌, List, [], ◌∷◌, Bool, true, false, eqb, arith, eqb-true, ne_eqb}
 use Rattle.language.specs.Kinds as K
 use Rattle.language.specs.Tree as T
@@ -102,7 +103,7 @@ module _ {s s' : List ℕ} {n : ℕ} {r r' : State} {v : ℕ} (values : ValuesHe
 
 -- none of them
 pub other-read :
-    {s : List ℕ} {n : ℕ} {r r' : State} {kind : ℕ} → Unlike kind (K.NAME ∷ K.FALSE ∷ K.TRUE ∷ K.STRING ∷ K.NUMBER ∷ []) → Refusing 6 s n r r'
+    {s : List ℕ} {n : ℕ} {r r' : State} {kind : ℕ} → Unlike kind (K.NAME ∷ K.FALSE ∷ K.TRUE ∷ K.STRING ∷ K.NUMBER ∷ []) → Refusing V.Unexpected s n r r'
     → ReadingAt kind 1 atomic (Encodes encode) s s n r r'
 unfolding atomic unexpected
 other-read {kind = kind} w g = let u = unlike5 w in (

@@ -1,4 +1,5 @@
 -- { ; item } [;] $): one turn, by the symbol here and the symbol after the semicolon.
+use Rattle.text.specs.declared.faults.Fault.TheVariants as V
 use Rattle.laws.proofs.Basics.{ℕ, zero, suc, ◌+◌, ◌-◌, ◌<◌, ◌≡◌, refl, sym, ap, subst, ◌∙◌, List, [], ◌++◌, append-nil, true, false, length, eqb}
 use Rattle.laws.proofs.Basics.{arith, eq-eqb, ne_eqb}
 use Rattle.language.specs.Kinds as K
@@ -97,7 +98,7 @@ module _ {A : Type 0} (none : A) (one : Reader (A → A)) (src : Source) where
 
   -- as many items as there are symbols, and no end
   pub list-spent :
-      {s s' : List ℕ} {r r' : State} {Says : A → List ℕ → Type 0} (t : ℕ) → t ≡ 0 → Refuses 6 r r' → Follows (more_up_to t none one src) Says s s' r r'
+      {s s' : List ℕ} {r r' : State} {Says : A → List ℕ → Type 0} (t : ℕ) → t ≡ 0 → Refuses V.Unexpected r r' → Follows (more_up_to t none one src) Says s s' r r'
   unfolding more_up_to unexpected
   list-spent zero e d = stopped (λ at free h. refl) d
   list-spent (suc t) e d = absurd (omega arith)

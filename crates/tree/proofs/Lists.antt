@@ -1,4 +1,5 @@
 -- Lists: an item whose size is set when it is read, and the loop that reads one item after another.
+use Rattle.text.specs.Faults.{number_of}
 use Rattle.laws.proofs.Basics.{ℕ, zero, suc, ◌+◌, ◌-◌, ◌<◌, ◌≤◌, ◌≡◌, refl, sym, ap, subst, ◌∙◌, List, [], ◌∷◌, ◌++◌, append_assoc, append-nil, Bool}
 use Rattle.laws.proofs.Basics.{true, false, length, set, take, length-append, length-take-le, arith}
 use Rattle.language.specs.Reader.{Source, Out, ok, no, Reader, on_out, many_up_to, kind_at}
@@ -19,8 +20,8 @@ pub record Part {A : Type 0} (out : Out A) (rest : ℕ → Out A) (Says : (A →
   pub size : nf ≡ free + length words
 
 abbrev pub PartlyBy : {A : Type 0} → (ℕ → Out A) → (ℕ → Out A) → ((A → A) → List ℕ → Type 0) → List ℕ → List ℕ → State → State → Type 0
-PartlyBy read rest Says s s' (Refused number at) r' = r' ≡ Refused number at
-PartlyBy read rest Says s s' (Read at free) (Refused number p) = read at ≡ no number p
+PartlyBy read rest Says s s' (Refused fault at) r' = r' ≡ Refused fault at
+PartlyBy read rest Says s s' (Read at free) (Refused fault p) = read at ≡ no (number_of fault) p
 PartlyBy read rest Says s s' (Read at free) (Read next nf) = Part (read at) rest Says free s s' next nf
 
 pub record PartlyAs {A : Type 0} (read rest : ℕ → Out A) (Says : (A → A) → List ℕ → Type 0) (s s' : List ℕ) (r r' : State) : Type 0 where

@@ -1,4 +1,5 @@
 -- The loops that read lists: what holds of the items so far, another turn, and the end.
+use Rattle.text.specs.declared.faults.Fault.TheVariants as V
 use Rattle.laws.proofs.Basics.{ℕ, ◌-◌, ◌<◌, ◌≡◌, refl, sym, ap, subst, ◌∙◌, List, [], ◌++◌, append_assoc, Bool, true, false, length}
 use Rattle.language.specs.Kinds as K
 use Rattle.language.specs.Reader.{Source, ok, Reader, on_out, the, many_up_to, more_up_to}
@@ -100,7 +101,7 @@ module _ {A : Type 0} (none : A) (starts : ℕ → Bool) (one : Reader (A → A)
 -- { ; item } [;] $), up to so many
 module _ {A : Type 0} (none : A) (one : Reader (A → A)) {enc : A → List ℕ} (t : ℕ) {read : Reader A} {s₀ s : List ℕ} {n : ℕ} {r₀ r : State}
     (so : SoFar (Before enc) read (more_up_to t none one) s₀ s n r₀ r) where
-  pub list-spents : {k : ℕ} {r₁ : State} → LeavesRoom k s s n r r₁ × Refuses 6 r r₁ → t ≡ 0 → Reading k read (Encodes enc) s₀ s n r₀ r₁
+  pub list-spents : {k : ℕ} {r₁ : State} → LeavesRoom k s s n r r₁ × Refuses V.Unexpected r r₁ → t ≡ 0 → Reading k read (Encodes enc) s₀ s n r₀ r₁
   list-spents d z = so-closes so before_last (d.0, λ src l. list-spent none one src t z d.1)
 
   module _ {kind : ℕ} (k : KindsHere s n r kind) (en : enc none ≡ []) where

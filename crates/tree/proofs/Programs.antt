@@ -1,4 +1,5 @@
 -- Programs: items, functions, declarations and the whole, one law for what each reader's parts make together.
+use Rattle.text.specs.declared.faults.Fault.TheVariants as V
 use Rattle.laws.proofs.Basics.{ℕ, ◌+◌, ◌-◌, ◌<◌, ◌≤◌, ◌≡◌, refl, sym, ap, subst, ◌∙◌, List, [], ◌∷◌, ◌++◌, append-nil, Bool, true, false, cond}
 use Rattle.laws.proofs.Basics.{length, length-append, eqb, arith, eqb-true, eqb-false, eq-eqb, ne_eqb}
 use Rattle.language.specs.Kinds as K
@@ -259,7 +260,7 @@ module _ (src : Source) {n : ℕ} (en : length src.symbols ≡ n) {s s₁ : List
       (λ p _. here (λ m. ok p m) (λ at free e. ap (λ (b : Bool). cond b (ok p at) (unexpected src at))
       (eq-eqb (kind_at src at) K.NOTHING (sym (k.here at free e) ∙ q))) (nothing (record { same = append-nil (encode_program p) })))
 
-  pub program-refused : {r₂ : State} → (kind ≡ K.NOTHING → ⊥) → Refuses 6 r₁ r₂ → Reads (G.program src) encode_program s s₁ r r₂
+  pub program-refused : {r₂ : State} → (kind ≡ K.NOTHING → ⊥) → Refuses V.Unexpected r₁ r₂ → Reads (G.program src) encode_program s s₁ r r₂
   unfolding G.program G.whole unexpected
   program-refused q g = bind 0 encode_program whole-read (refuses-on g)
       (λ p _. stopped (λ at free e. ap (λ (b : Bool). cond b (ok p at) (no 6 at)) (ne_eqb (kind_at src at) K.NOTHING (λ y. q (k.here at free e ∙ y))))

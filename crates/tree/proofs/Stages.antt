@@ -10,9 +10,9 @@ use Rattle.language.specs.Grammar.{tree_of}
 use Rattle.symbols.specs.Read.{entries, outcome}
 use Rattle.symbols.proofs.Semicolons.{symbols_in, few}
 use Rattle.tree.specs.Encoding.{encode_program}
-use Rattle.tree.specs.Read.{decoded, source_in, too_short, answer_of, tree_read}
-use Rattle.tree.specs.declared.TreeRead.{TreeRead}
-use Rattle.tree.specs.declared.TreeRead.TheVariants as Answers
+use Rattle.tree.specs.Read.{decoded, source_in, too_short, answer_by, tree_read}
+use Rattle.tree.specs.Read as Answers
+use Rattle.tree.specs.Read.{Answer}
 
 pub decoded-entries : (ss : List Symbol) (rest : List ℕ) → decoded (length ss) (entries ss ++ rest) ≡ ss
 unfolding decoded entries
@@ -47,11 +47,11 @@ unfolding too_short
 enough text ss room e h l = rw (le-ltb room (length ss * 8 + 64) (omega (arith, few-good text ss e)), le-ltb (2 ^ 32 - 1) room (omega arith)) refl
 
 -- what the definition of both stages says, as an answer
-pub as_answer : (count : ℕ) → Read → TreeRead
-as_answer count (read p) = Answers.Read (count * 3 + length (encode_program p))
-as_answer count (refused k place) = Answers.Refused k place
+pub as_answer : (count : ℕ) → Read → Answer
+as_answer count (read p) = Answers.read (count * 3 + length (encode_program p))
+as_answer count (refused k place) = Answers.refused k place
 
-same_answer : (src : Source) (count : ℕ) (o : Out Program) → answer_of src count o ≡ as_answer count (on_tree src o)
+same_answer : (src : Source) (count : ℕ) (o : Out Program) → answer_by src count o ≡ as_answer count (on_tree src o)
 unfolding as_answer
 same_answer src count (ok p next) = refl
 same_answer src count (no k at) = refl

@@ -1,4 +1,6 @@
 -- How what the callees ensure makes what a reader ensures: one law for each way to go on.
+use Rattle.text.specs.Faults.{number_of}
+use Rattle.text.specs.declared.faults.Fault.{Fault}
 use Rattle.laws.proofs.Basics.{ℕ, ◌+◌, ◌-◌, ◌≡◌, refl, sym, ap, subst, ◌∙◌, List, [], ◌∷◌, ◌++◌, append_assoc, append-nil, length, take}
 use Rattle.laws.proofs.Basics.{length-append, arith}
 use Rattle.language.specs.Reader.{Out, ok, no, on_out}
@@ -23,7 +25,7 @@ pub adds_on : {words : ℕ → List ℕ} {s s' : List ℕ} {r r' : State} → Ad
 adds_on {r = Refused k p} d = record { by = d.by }
 adds_on {r = Read at free} d = record { by = tt }
 
-pub refuses-on : {number : ℕ} {r r' : State} → Refuses number r r' → Passes r r'
+pub refuses-on : {fault : Fault} {r r' : State} → Refuses fault r r' → Passes r r'
 refuses-on {r = Refused k p} d = record { by = d.by }
 refuses-on {r = Read at free} d = record { by = tt }
 
@@ -113,8 +115,8 @@ module _ {A : Type 0} {read : ℕ → Out A} {s s' : List ℕ} where
 
   -- refused
   pub stopped :
-      {number : ℕ} {Says : A → List ℕ → Type 0} {r r' : State} → ((at free : ℕ) → r ≡ Read at free → read at ≡ no number at)
-      → Refuses number r r' → Follows read Says s s' r r'
+      {fault : Fault} {Says : A → List ℕ → Type 0} {r r' : State} → ((at free : ℕ) → r ≡ Read at free → read at ≡ no (number_of fault) at)
+      → Refuses fault r r' → Follows read Says s s' r r'
   stopped {r = Refused k p} e d = record { by = d.by }
   stopped {Says = Says} {r = Read at free} e d =
       record { by = subst (λ (x : State). FollowsBy read Says s s' (Read at free) x) (sym d.by) (e at free refl) }

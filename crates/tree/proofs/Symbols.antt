@@ -1,4 +1,6 @@
 -- Laws of the symbols that stand in scratch.
+use Rattle.text.specs.declared.faults.Fault.{Fault}
+use Rattle.text.specs.declared.faults.Fault.TheVariants as V
 use Rattle.laws.proofs.Basics.{ℕ, ◌+◌, ◌*◌, ◌<◌, ◌≤◌, ◌≡◌, refl, sym, ap, subst, ◌∙◌, List, [], append-nil, Bool, cond, get_or, take}
 use Rattle.laws.proofs.Basics.{List·getD-eq-default, get_or-take, eqb, ltb, arith, eqb-true, eq-eqb, ne_eqb, ltb-true, ltb-false}
 use Rattle.laws.proofs.Cases.{by_cases, contradiction}
@@ -25,7 +27,7 @@ module _ {src : Source} {n : ℕ} {s : List ℕ} (l : HoldsSymbols src n s) wher
   pub kind-past : {r : State} {at free : ℕ} → r ≡ Read at free → n ≤ at → KindHere src r 0
   kind-past {r} {at} e h = record { here = λ at' free' e'. sym (past l at' (omega (arith, same_at e e'))) }
 
-  pub kind-refused : {r : State} {k p x : ℕ} → r ≡ Refused k p → KindHere src r x
+  pub kind-refused : {r : State} {k : Fault} {p x : ℕ} → r ≡ Refused k p → KindHere src r x
   kind-refused e = record { here = λ at free e'. contradiction cc }
 
 -- an entry of the symbol here, whichever it is: its kind, its value or its place
@@ -36,7 +38,7 @@ entry_here what e q at' free' e' = q ∙ ap what (same_at e e')
 pub here-past : {what : ℕ → ℕ} {n : ℕ} {r : State} {at free x : ℕ} → r ≡ Read at free → n ≤ at → Here what n r x
 here-past e h = record { here = λ at' free' e' i. absurd (omega (arith, same_at e e')) }
 
-pub here-refused : {what : ℕ → ℕ} {n : ℕ} {r : State} {k p x : ℕ} → r ≡ Refused k p → Here what n r x
+pub here-refused : {what : ℕ → ℕ} {n : ℕ} {r : State} {k : Fault} {p x : ℕ} → r ≡ Refused k p → Here what n r x
 here-refused e = record { here = λ at free e' i. contradiction cc }
 
 -- the symbols stay where they are
@@ -73,14 +75,14 @@ module _ {src : Source} {n : ℕ} {s : List ℕ} (l : HoldsSymbols src n s) {r :
     });
   }
 
-  pub expect-other : at < n → (get_or s (at * 3) 0 ≡ kind → ⊥) → Reads (the kind src) (λ _. []) s s r (Refused 6 at)
+  pub expect-other : at < n → (get_or s (at * 3) 0 ≡ kind → ⊥) → Reads (the kind src) (λ _. []) s s r (Refused V.Unexpected at)
   expect-other h q = record { by = rw e (the-not src kind at (λ x. q (l.kinds at h ∙ x))) }
 
-  pub expect-end : n ≤ at → 0 < kind → Reads (the kind src) (λ _. []) s s r (Refused 6 at)
+  pub expect-end : n ≤ at → 0 < kind → Reads (the kind src) (λ _. []) s s r (Refused V.Unexpected at)
   expect-end h pos = record { by = rw e (the-not src kind at (λ x. let z : kind_at src at ≡ 0 = past l at (omega arith) in absurd (omega arith))) }
 
 pub expect-refused :
-    (src : Source) {s : List ℕ} {r : State} {k p : ℕ} (kind : ℕ) → r ≡ Refused k p → Reads (the kind src) (λ _. []) s s r (Refused k p)
+    (src : Source) {s : List ℕ} {r : State} {k : Fault} {p : ℕ} (kind : ℕ) → r ≡ Refused k p → Reads (the kind src) (λ _. []) s s r r
 expect-refused src kind e = record { by = rw e refl }
 
 -- the place of a symbol that is read is what stands here

@@ -1,6 +1,8 @@
 -- What the functions of the reader ask and ensure.
 -- Each takes the state of the reading so far and gives the next one; a refusal is passed on as it is.
 use Rattle.std.specs.Prelude.{ℕ, ◌+◌, ◌*◌, ◌-◌, ◌≤◌, ◌<◌, ◌^◌, ◌≡◌, List, [], ◌∷◌, ◌++◌, length, take, get_or, set}
+use Rattle.text.specs.Faults.{number_of}
+use Rattle.text.specs.declared.faults.Fault.{Fault}
 use Rattle.language.specs.Reader.{Source, Out, ok, no, Reader, kind_at, value_at, place_at}
 use Rattle.tree.specs.declared.scratch.State.{State}
 use Rattle.tree.specs.declared.scratch.State.TheVariants.{Read, Refused}
@@ -15,25 +17,25 @@ pub record HoldsSymbols (src : Source) (n : ℕ) (s : List ℕ) : Type 0 where
 -- the position of the next symbol, the next free entry, and how far the tree may still reach: five entries for each symbol left
 unfoldable pub next_of : State → ℕ
 next_of (Read next free) = next
-next_of (Refused number at) = 0
+next_of (Refused fault at) = 0
 
 unfoldable pub free_of : (size : ℕ) → State → ℕ
 free_of size (Read next free) = free
-free_of size (Refused number at) = size
+free_of size (Refused fault at) = size
 
 unfoldable pub reach : (n : ℕ) → State → ℕ
 reach n (Read next free) = free + 5 * (n - next)
-reach n (Refused number at) = 0
+reach n (Refused fault at) = 0
 
 -- the next free entry, where the symbols' end stands for that of a refusal
 unfoldable pub low_of : (n : ℕ) → State → ℕ
 low_of n (Read next free) = free
-low_of n (Refused number at) = n * 3
+low_of n (Refused fault at) = n * 3
 
 -- 1, and 0 for a refusal
 unfoldable pub live : State → ℕ
 live (Read next free) = 1
-live (Refused number at) = 0
+live (Refused fault at) = 0
 
 -- n symbols stand at the front of scratch, the tree behind them, and m entries more than the tree needs are free
 pub record Ready (m : ℕ) (s : List ℕ) (n : ℕ) (r : State) : Type 0 where
@@ -78,8 +80,8 @@ pub record Wrote {A : Type 0} (out : Out A) (Says : A → List ℕ → Type 0) (
   pub size : nf ≡ free + length words
 
 abbrev pub FollowsBy : {A : Type 0} → (ℕ → Out A) → (A → List ℕ → Type 0) → List ℕ → List ℕ → State → State → Type 0
-FollowsBy read Says s s' (Refused number at) r' = r' ≡ Refused number at
-FollowsBy read Says s s' (Read at free) (Refused number p) = read at ≡ no number p
+FollowsBy read Says s s' (Refused fault at) r' = r' ≡ Refused fault at
+FollowsBy read Says s s' (Read at free) (Refused fault p) = read at ≡ no (number_of fault) p
 FollowsBy read Says s s' (Read at free) (Read next nf) = Wrote (read at) Says free s s' next nf
 
 -- from r to r' is read what `read` says, and what is written for it says so; a refusal stays
@@ -110,23 +112,23 @@ ReadingAt kind k read Says s s' n r r' =
 
 -- a refusal stays
 abbrev pub PassesBy : State → State → Type 0
-PassesBy (Refused number at) r' = r' ≡ Refused number at
+PassesBy (Refused fault at) r' = r' ≡ Refused fault at
 PassesBy (Read at free) r' = Unit {0}
 
 pub record Passes (r r' : State) : Type 0 where
   pub by : PassesBy r r'
 
--- refused with that number at the state's position
-abbrev pub RefusesBy : (number : ℕ) → State → State → Type 0
-RefusesBy number (Refused k p) r' = r' ≡ Refused k p
-RefusesBy number (Read at free) r' = r' ≡ Refused number at
+-- refused with that fault at the state's position
+abbrev pub RefusesBy : (fault : Fault) → State → State → Type 0
+RefusesBy fault (Refused k p) r' = r' ≡ Refused k p
+RefusesBy fault (Read at free) r' = r' ≡ Refused fault at
 
-pub record Refuses (number : ℕ) (r r' : State) : Type 0 where
-  pub by : RefusesBy number r r'
+pub record Refuses (fault : Fault) (r r' : State) : Type 0 where
+  pub by : RefusesBy fault r r'
 
 -- words are written behind
 abbrev pub AddsBy : (words : ℕ → List ℕ) → List ℕ → List ℕ → State → State → Type 0
-AddsBy words s s' (Refused number at) r' = r' ≡ Refused number at
+AddsBy words s s' (Refused fault at) r' = r' ≡ Refused fault at
 AddsBy words s s' (Read at free) r' =
     (r' ≡ Read at (free + length (words free))) × (take (free + length (words free)) s' ≡ take free s ++ words free)
 
@@ -143,7 +145,7 @@ behind_from lo tag free = (free - lo) ∷ tag ∷ []
 
 -- the item that begins at lo has its size set
 abbrev pub SetsSizeBy : (lo : ℕ) → List ℕ → List ℕ → State → Type 0
-SetsSizeBy lo s s' (Refused number at) = Unit {0}
+SetsSizeBy lo s s' (Refused fault at) = Unit {0}
 SetsSizeBy lo s s' (Read at free) = take free s' ≡ set (take free s) lo (free - lo - 2)
 
 pub record SetsSize (lo : ℕ) (s s' : List ℕ) (r : State) : Type 0 where

@@ -18,6 +18,7 @@ use crate::phrases::{cmd, expr};
 use crate::scratch::{
     State, begin_item, expect, free_of, kind_here, node, optional, refuse, set_size,
 };
+use text::Fault;
 
 // Commands, brackets and expressions nest to 64 levels.
 const LEVELS: usize = 64;
@@ -54,7 +55,7 @@ fn further_items(s: &mut [u32], n: usize, sign: u32, r: State) -> State
         }
         a = one_item(s, n, sign, semicolon);
     }
-    refuse(s, n, a, 6)
+    refuse(s, n, a, Fault::Unexpected)
 }
 
 // $( item { ; item } [;] $)
@@ -197,5 +198,5 @@ pub(crate) fn program(s: &mut [u32], n: usize, r: State) -> State
     if kind == NOTHING {
         return a;
     }
-    refuse(s, n, a, 6)
+    refuse(s, n, a, Fault::Unexpected)
 }

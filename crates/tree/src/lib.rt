@@ -18,13 +18,13 @@ ghost use Rattle.tree.specs.Read.{source_in, too_short, ReadsTree};
 use crate::declarations::program;
 use crate::scratch::State;
 use symbols::clear_from;
+use text::Fault;
 
-// The tree's end, or a refusal's number and place.
-#[derive(Drop)]
-pub enum TreeRead {
+// Why there is no tree: document 01's refusal 15; or a fault, and the place of the symbol that is refused.
+#[derive(Clone, Copy, PartialEq, Eq)]
+pub enum Unparsed {
     TooShort,
-    Read(usize),
-    Refused { number: u16, place: usize },
+    Refused { fault: Fault, place: usize },
 }
 
 // The place of the symbol at that position: past the symbols, the text's length.
@@ -35,37 +35,32 @@ fn place_at(s: &[u32], n: usize, size: usize, at: usize) -> usize
     if at < n { s[at * 3 + 2] as usize } else { size }
 }
 
+#[tactic(auto, unfolding(crate::specs::Read::too_short))]
 fn too_short(s: &[u32], count: usize) -> bool
     ensures { result ≡ too_short (length s.now) count }
 {
     let room = s.len();
-    if 4294967295 < room {
-        return true;
-    }
-    if room < 64 {
-        return true;
-    }
-    (room - 64) / 8 < count
+    room < 64 || room > u32::MAX as usize || (room - 64) / 8 < count
 }
 
 // Reads so many symbols, which stand in scratch and come from a text of that size, and writes their tree behind them, and zeros
 // behind that.
-pub fn read_tree(scratch: &mut [u32], count: usize, size: usize) -> TreeRead
+pub fn read_tree(scratch: &mut [u32], count: usize, size: usize) -> Result<usize, Unparsed>
     ensures { ReadsTree scratch.old count size result scratch.new }
 {
     if too_short(scratch, count) {
-        return TreeRead::TooShort;
+        return Err(Unparsed::TooShort);
     }
     let start = count * 3;
-    match program(scratch, count, State::Read(0, start)) {
-        State::Read(_, free) => {
+    match program(scratch, count, State::Read { at: 0, free: start }) {
+        State::Read { free, .. } => {
             clear_from(scratch, free);
-            TreeRead::Read(free)
+            Ok(free)
         }
-        State::Refused(number, at) => {
+        State::Refused { fault, at } => {
             let place = place_at(scratch, count, size, at);
             clear_from(scratch, start);
-            TreeRead::Refused { number, place }
+            Err(Unparsed::Refused { fault, place })
         }
     }
 }

@@ -19,6 +19,7 @@ use crate::kinds::{
 use crate::scratch::{
     State, begin_item, expect, free_of, kind_here, node, place_here, refuse, set_size, value_here,
 };
+use text::Fault;
 
 // A symbol that is a leaf of the tree.
 fn leaf(s: &mut [u32], n: usize, r: State, kind: u32, value: u32, tag: u32) -> State
@@ -43,7 +44,7 @@ pub(crate) fn atom(s: &mut [u32], n: usize, r: State, kind: u32) -> State
         TRUE => leaf(s, n, r, TRUE, 65535, NUMBER),
         FALSE => leaf(s, n, r, FALSE, 0, NUMBER),
         NAME => leaf(s, n, r, NAME, value, NAME),
-        _ => refuse(s, n, r, 6),
+        _ => refuse(s, n, r, Fault::Unexpected),
     }
 }
 
@@ -97,7 +98,7 @@ fn negative(s: &mut [u32], n: usize, levels: usize, r: State) -> State
     ensures { Reading 1 (E.negative (within levels)) (Encodes encode_constant) s.old s.new n r result }
 {
     if levels == 0 {
-        return refuse(s, n, r, 7);
+        return refuse(s, n, r, Fault::TooDeep);
     }
     let place = place_here(s, n, r);
     let minus = expect(s, n, r, MINUS);

@@ -31,6 +31,7 @@ use crate::scratch::{
     State, begin_item, close_item, expect, free_of, is_call, kind_here, node, optional, place_here,
     place_of, refuse, set_size, suffixed_kind,
 };
+use text::Fault;
 
 // What follows the first suffix: where it ends, and whether the last suffix is a call.
 #[derive(Drop)]
@@ -131,7 +132,7 @@ fn monad(s: &mut [u32], n: usize, levels: usize, kind: u32, r: State) -> State
     ensures { ReadingAt kind 1 (E.monadic (within levels)) (Encodes encode) s.old s.new n r result }
 {
     if levels == 0 {
-        return refuse(s, n, r, 7);
+        return refuse(s, n, r, Fault::TooDeep);
     }
     let lo = free_of(s, r);
     let place = place_here(s, n, r);
@@ -200,7 +201,7 @@ fn call(s: &mut [u32], n: usize, levels: usize, r: State) -> State
     ensures { Reading 4 (E.arguments (within levels)) (PrependsSuffix true) s.old s.new n r result }
 {
     if levels == 0 {
-        return refuse(s, n, r, 7);
+        return refuse(s, n, r, Fault::TooDeep);
     }
     let lo = free_of(s, r);
     let open = expect(s, n, r, OPEN);
@@ -305,7 +306,7 @@ fn nest(s: &mut [u32], n: usize, levels: usize, r: State) -> State
     ensures { Reading 1 (E.bracketed (within levels)) (Encodes encode) s.old s.new n r result }
 {
     if levels == 0 {
-        return refuse(s, n, r, 7);
+        return refuse(s, n, r, Fault::TooDeep);
     }
     let lo = free_of(s, r);
     let place = place_here(s, n, r);
@@ -322,7 +323,7 @@ fn valof(s: &mut [u32], n: usize, levels: usize, r: State) -> State
     ensures { Reading 1 (E.valof (within levels)) (Encodes encode) s.old s.new n r result }
 {
     if levels == 0 {
-        return refuse(s, n, r, 7);
+        return refuse(s, n, r, Fault::TooDeep);
     }
     let lo = free_of(s, r);
     let place = place_here(s, n, r);
@@ -368,14 +369,14 @@ fn body(s: &mut [u32], n: usize, levels: usize, labelled: bool, r: State) -> Sta
     let kind = kind_here(s, n, r);
     if begins_command(kind) {
         if levels == 0 {
-            return refuse(s, n, r, 7);
+            return refuse(s, n, r, Fault::TooDeep);
         }
         return redo(s, n, levels - 1, r);
     }
     if labelled {
         return r;
     }
-    refuse(s, n, r, 6)
+    refuse(s, n, r, Fault::Unexpected)
 }
 
 // unlabelled { REPEAT form }
@@ -569,7 +570,7 @@ fn list(s: &mut [u32], n: usize, levels: usize, r: State) -> State
         }
         a = item(s, n, levels, semicolon);
     }
-    refuse(s, n, a, 6)
+    refuse(s, n, a, Fault::Unexpected)
 }
 
 // [ command { ; command } ] [;] $)
@@ -710,5 +711,5 @@ fn bare(s: &mut [u32], n: usize, levels: usize, r: State) -> State
     if is_call(s, n, first) {
         return first;
     }
-    refuse(s, n, first, 6)
+    refuse(s, n, first, Fault::Unexpected)
 }

@@ -8,13 +8,14 @@ ghost use Rattle.tree.specs.Reads.{SetsSize, free_of, Reading, Encodes};
 ghost use Rattle.tree.specs.Between.{CallHere, PlaceHere};
 
 use crate::kinds::{CALLED, NOTHING, SUFFIXED};
+use text::Fault;
 
 #[derive(Clone, Copy)]
 pub(crate) enum State {
     // the position of the next symbol, and the next free entry
-    Read(usize, usize),
-    // a refusal's number, and the position of the symbol refused
-    Refused(u16, usize),
+    Read { at: usize, free: usize },
+    // what is wrong, and the position of the symbol refused
+    Refused { fault: Fault, at: usize },
 }
 
 pub(crate) fn kind_here(s: &[u32], n: usize, r: State) -> u32
@@ -22,8 +23,8 @@ pub(crate) fn kind_here(s: &[u32], n: usize, r: State) -> u32
     ensures { (src : Source) → HoldsSymbols src n s.now → KindHere src r result }
 {
     match r {
-        State::Read(at, _) => if at < n { s[at * 3] } else { NOTHING },
-        State::Refused(_, _) => NOTHING,
+        State::Read { at, .. } if at < n => s[at * 3],
+        _ => NOTHING,
     }
 }
 
@@ -32,8 +33,8 @@ pub(crate) fn value_here(s: &[u32], n: usize, r: State) -> u32
     ensures { (src : Source) → HoldsSymbols src n s.now → Here (value_at src) n r result }
 {
     match r {
-        State::Read(at, _) => if at < n { s[at * 3 + 1] } else { 0 },
-        State::Refused(_, _) => 0,
+        State::Read { at, .. } if at < n => s[at * 3 + 1],
+        _ => 0,
     }
 }
 
@@ -42,28 +43,29 @@ pub(crate) fn place_here(s: &[u32], n: usize, r: State) -> u32
     ensures { (src : Source) → HoldsSymbols src n s.now → Here (place_at src) n r result }
 {
     match r {
-        State::Read(at, _) => if at < n { s[at * 3 + 2] } else { 0 },
-        State::Refused(_, _) => 0,
+        State::Read { at, .. } if at < n => s[at * 3 + 2],
+        _ => 0,
     }
 }
 
 // The next free entry.
+#[tactic(auto, unfolding(crate::specs::Reads::free_of))]
 pub(crate) fn free_of(s: &[u32], r: State) -> usize
     ensures { result ≡ free_of (length s.now) r }
 {
     match r {
-        State::Read(_, free) => free,
-        State::Refused(_, _) => s.len(),
+        State::Read { free, .. } => free,
+        State::Refused { .. } => s.len(),
     }
 }
 
-pub(crate) fn refuse(s: &[u32], n: usize, r: State, number: u16) -> State
+pub(crate) fn refuse(s: &[u32], n: usize, r: State, fault: Fault) -> State
     requires { Ready 0 s.now n r }
-    ensures { LeavesRoom 5 s.now s.now n r result × Refuses number r result }
+    ensures { LeavesRoom 5 s.now s.now n r result × Refuses fault r result }
 {
     match r {
-        State::Read(at, _) => State::Refused(number, at),
-        State::Refused(k, p) => State::Refused(k, p),
+        State::Read { at, .. } => State::Refused { fault, at },
+        State::Refused { .. } => r,
     }
 }
 
@@ -73,15 +75,15 @@ pub(crate) fn expect(s: &[u32], n: usize, r: State, kind: u32) -> State
     ensures { Reading 5 (the kind) (Encodes (λ _. [])) s.now s.now n r result }
 {
     match r {
-        State::Read(at, free) => {
-            if at < n {
-                if s[at * 3] == kind {
-                    return State::Read(at + 1, free);
-                }
+        State::Read { at, free } => if at < n && s[at * 3] == kind {
+            State::Read { at: at + 1, free }
+        } else {
+            State::Refused {
+                fault: Fault::Unexpected,
+                at,
             }
-            State::Refused(6, at)
-        }
-        State::Refused(k, p) => State::Refused(k, p),
+        },
+        State::Refused { .. } => r,
     }
 }
 
@@ -90,11 +92,11 @@ pub(crate) fn optional(s: &[u32], n: usize, kind: u32, r: State) -> State
     requires { Ready 0 s.now n r × (0 < kind) }
     ensures { Reading 0 (optional kind) (Encodes (λ _. [])) s.now s.now n r result }
 {
-    let here = kind_here(s, n, r);
-    if here == kind {
-        return expect(s, n, r, kind);
+    if kind_here(s, n, r) == kind {
+        expect(s, n, r, kind)
+    } else {
+        r
     }
-    r
 }
 
 // Writes a record behind what stands from lo on.
@@ -111,16 +113,14 @@ pub(crate) fn node(
     ensures { TakesRoom 4 s.old s.new n r result
         × Adds (record_from lo value place kind) s.old s.new r result }
 {
-    match r {
-        State::Read(at, free) => {
-            s[free] = free.saturating_sub(lo) as u32;
-            s[free + 1] = value;
-            s[free + 2] = place;
-            s[free + 3] = kind;
-            State::Read(at, free + 4)
-        }
-        State::Refused(k, p) => State::Refused(k, p),
-    }
+    let State::Read { at, free } = r else {
+        return r;
+    };
+    s[free] = free.saturating_sub(lo) as u32;
+    s[free + 1] = value;
+    s[free + 2] = place;
+    s[free + 3] = kind;
+    State::Read { at, free: free + 4 }
 }
 
 // Begins an item of a list: its size, which is set later, and its tag.
@@ -128,14 +128,12 @@ pub(crate) fn begin_item(s: &mut [u32], n: usize, r: State, tag: u32) -> State
     requires { Ready 2 s.old n r }
     ensures { TakesRoom 2 s.old s.new n r result × Adds (λ _. 0 ∷ tag ∷ []) s.old s.new r result }
 {
-    match r {
-        State::Read(at, free) => {
-            s[free] = 0;
-            s[free + 1] = tag;
-            State::Read(at, free + 2)
-        }
-        State::Refused(k, p) => State::Refused(k, p),
-    }
+    let State::Read { at, free } = r else {
+        return r;
+    };
+    s[free] = 0;
+    s[free + 1] = tag;
+    State::Read { at, free: free + 2 }
 }
 
 // Sets the size of the item that begins at lo.
@@ -144,12 +142,8 @@ pub(crate) fn set_size(s: &mut [u32], n: usize, r: State, lo: usize)
     ensures { LeavesRoom 0 s.old s.new n r r × SetsSize lo s.old s.new r }
 {
     match r {
-        State::Read(_, free) => {
-            if lo < free {
-                s[lo] = free.saturating_sub(lo).saturating_sub(2) as u32;
-            }
-        }
-        State::Refused(_, _) => {}
+        State::Read { free, .. } if lo < free => s[lo] = (free - lo).saturating_sub(2) as u32,
+        _ => {}
     }
 }
 
@@ -158,14 +152,12 @@ pub(crate) fn close_item(s: &mut [u32], n: usize, r: State, lo: usize, tag: u32)
     requires { Ready 2 s.old n r }
     ensures { TakesRoom 2 s.old s.new n r result × Adds (behind_from lo tag) s.old s.new r result }
 {
-    match r {
-        State::Read(at, free) => {
-            s[free] = free.saturating_sub(lo) as u32;
-            s[free + 1] = tag;
-            State::Read(at, free + 2)
-        }
-        State::Refused(k, p) => State::Refused(k, p),
-    }
+    let State::Read { at, free } = r else {
+        return r;
+    };
+    s[free] = free.saturating_sub(lo) as u32;
+    s[free + 1] = tag;
+    State::Read { at, free: free + 2 }
 }
 
 // The kind of a record with suffixes, by whether the last of them is a call.
@@ -182,12 +174,8 @@ pub(crate) fn is_call(s: &[u32], n: usize, r: State) -> bool
     ensures { CallHere s.now r result }
 {
     match r {
-        State::Read(_, free) => if free < 1 {
-            false
-        } else {
-            s[free - 1] == CALLED
-        },
-        State::Refused(_, _) => false,
+        State::Read { free, .. } => 0 < free && s[free - 1] == CALLED,
+        State::Refused { .. } => false,
     }
 }
 
@@ -197,7 +185,7 @@ pub(crate) fn place_of(s: &[u32], n: usize, r: State) -> u32
     ensures { PlaceHere s.now r result }
 {
     match r {
-        State::Read(_, free) => if free < 2 { 0 } else { s[free - 2] },
-        State::Refused(_, _) => 0,
+        State::Read { free, .. } if 1 < free => s[free - 2],
+        _ => 0,
     }
 }
