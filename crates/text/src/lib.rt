@@ -137,7 +137,7 @@ pub fn character_at(text: &[u8], at: usize, quote: u8) -> Character
         c if c == quote => Character::Closing,
         b'*' => escape(rest),
         b'\n' => Character::Ended,
-        c @ 32..=126 => Character::Is(c, 1),
+        c @ b' '..=b'~' => Character::Is(c, 1),
         _ => Character::Mistake(Fault::QuotedByte),
     }
 }
