@@ -75,11 +75,10 @@ pub fn line_of(text: &[u8], place: usize) -> usize
 pub fn refuse(text: &[u8], number: u16, place: usize) -> Refusal
     ensures { result ≡ refusal text.now number place }
 {
-    let line = line_of(text, place);
     Refusal {
         number,
         place,
-        line,
+        line: line_of(text, place),
     }
 }
 
