@@ -222,7 +222,7 @@ impl Registers {
     }
 
     // The instruction at C. L, LIP, SP and X with a short address, the commonest, are told by one test of the word.
-    #[tactic(auto, using(crate::proofs::Fetching::fetch_l, crate::proofs::Fetching::fetch_x, crate::proofs::Fetching::fetch_sp, crate::proofs::Fetching::fetch_lip, crate::proofs::Fetching::fetch_any))]
+    #[tactic(auto, using(crate::proofs::Fetching::fetch_l, crate::proofs::Fetching::fetch_x, crate::proofs::Fetching::fetch_lip, crate::proofs::Fetching::fetch_any))]
     fn fetch(self, memory: &[u16]) -> Result<Fetched, Stop>
         ensures { out_of result ≡ as_fetched self (fetch self memory.now) }
     {
