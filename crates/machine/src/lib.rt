@@ -401,7 +401,7 @@ impl Registers {
     }
 
     // The function f with its operand x, C being past the instruction.
-    #[tactic(auto, using(crate::proofs::Numbers::function_at, crate::proofs::Numbers::function_x), unfolding(crate::specs::Step::execute, crate::specs::Step::jumped, crate::specs::Step::keep, crate::specs::Answers::left))]
+    #[tactic(auto, using(crate::proofs::Numbers::function_at), unfolding(crate::specs::Step::execute, crate::specs::Step::jumped, crate::specs::Step::keep, crate::specs::Answers::left))]
     fn execute(
         self,
         f: u16,
