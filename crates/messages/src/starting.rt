@@ -1,0 +1,138 @@
+// A program's beginning: what its command line asks for, and the source that is given.
+ghost use Rattle.std.specs.Prelude.{◌≡◌, ◌≤◌, Some};
+ghost use Rattle.messages.specs.Fits.{Fits};
+
+use crate::given::budget_of;
+use crate::speaking::Console;
+use crate::system;
+use crate::system::{EprintBytes, NAME_ROOM};
+use std::io::IsTerminal;
+use std::rt::{Env, Files};
+
+// A program of a source: it runs one or, by an option of its own, shows what it makes of it.
+pub trait Program {
+    const NAME: &'static str;
+
+    const USAGE: &'static str;
+
+    // The letter of the option that shows.
+    const LETTER: u8;
+
+    // With standard input as the run's input.
+    fn run<R: EprintBytes + Files + Input + Print>(
+        console: &Console<'_, R>,
+        source: &[u8],
+        budget: u64,
+        asks: bool,
+    )
+    where
+        R::Reader: IsTerminal;
+
+    fn show<R: EprintBytes + Print>(console: &Console<'_, R>, source: &[u8]);
+}
+
+// What is to be done with the file.
+#[derive(Clone, Copy)]
+enum Task {
+    Run { budget: u64, asks: bool },
+    Show,
+}
+
+// The budget of a run where none is given.
+const BUDGET: u64 = 1000000000;
+
+impl<R: Env + EprintBytes> Console<'_, R> {
+    // The argument that is the name of a file. If it cannot be had, that is said.
+    pub fn file_argument(&self, at: usize, buffer: &mut [u8]) -> Option<usize>
+        ensures { Fits result buffer.new }
+    {
+        match self.rt.arg(at, buffer) {
+            Ok(n) => Some(n),
+            Err(e) => {
+                self.fail("", b"FILE", &system::argument_error(e));
+                None
+            }
+        }
+    }
+
+    // The budget that is argument `at`, if there is one. What is no number is said.
+    pub fn budget_argument(&self, at: usize, count: usize) -> Option<u64>
+        ensures { count ≤ at → result ≡ Some 1000000000 }
+    {
+        if count <= at {
+            return Some(BUDGET);
+        }
+        let mut room = [0; NAME_ROOM];
+        let n = self.rt.arg(at, &mut room).unwrap_or(0);
+        let budget = budget_of(&room[..n]);
+        if budget.is_none() {
+            self.tell(
+                "BUDGET is to be a number of instructions, 0 to 18446744073709551615; nothing was run.\n",
+            );
+        }
+        budget
+    }
+
+    // What a command line of `count` words asks for, and which argument is the file; none if that is said to be amiss.
+    fn task<P: Program>(&self, first: &[u8], count: usize) -> Option<(Task, usize)> {
+        let (shows, asks, file) = match first {
+            b"-c" => (false, true, 2),
+            [b'-', letter] if *letter == P::LETTER => (true, false, 2),
+            [b'-', ..] => {
+                self.tell_of(
+                    "there is no option ",
+                    first,
+                    "; nothing was run. (A file of that name is given as ./NAME.)\n",
+                );
+                self.say(P::USAGE);
+                return None;
+            }
+            _ => (false, false, 1),
+        };
+        let most = if shows { file + 1 } else { file + 2 };
+        if count <= file || count > most {
+            self.say(P::USAGE);
+            return None;
+        }
+        if shows {
+            return Some((Task::Show, file));
+        }
+        let budget = self.budget_argument(file + 1, count)?;
+        Some((Task::Run { budget, asks }, file))
+    }
+}
+
+// What a program does with its command line. The room for its source is lent.
+pub fn start<P: Program, R: Env + EprintBytes + Files + Input + Print>(rt: &R, room: &mut [u8])
+where
+    R::File: IsTerminal,
+    R::Reader: IsTerminal,
+{
+    let console = Console {
+        rt,
+        program: P::NAME,
+    };
+    let count = system::arg_count(rt);
+    if count < 2 {
+        console.say(P::USAGE);
+        return;
+    }
+    let mut name = [0; NAME_ROOM];
+    let Some(n) = console.file_argument(1, &mut name) else {
+        return;
+    };
+    let Some((task, file)) = console.task::<P>(&name[..n], count) else {
+        return;
+    };
+    let Some(n) = console.file_argument(file, &mut name) else {
+        return;
+    };
+    let Some(m) = console.load_file(&name[..n], room) else {
+        return;
+    };
+    let source = &room[..m];
+    match task {
+        Task::Run { budget, asks } => P::run(&console, source, budget, asks),
+        Task::Show => P::show(&console, source),
+    }
+}
