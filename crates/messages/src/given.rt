@@ -1,4 +1,5 @@
 // What a user gives a program: a budget, a file, standard input.
+ghost use Rattle.std.specs.Prelude.{◌≤◌, IfSome, length};
 ghost use Rattle.messages.specs.Fits.{Fits};
 
 use crate::speaking::Console;
@@ -57,14 +58,17 @@ impl<R: EprintBytes> Console<'_, R> {
 }
 
 impl<R: EprintBytes + Files> Console<'_, R> {
-    // A file's bytes.
-    pub fn load_file(&self, path: &[u8], buffer: &mut [u8]) -> Option<usize>
+    // A file's bytes, in the room that is lent.
+    pub fn load_file<'b>(&self, path: &[u8], room: &'b mut [u8]) -> Option<&'b [u8]>
     where
         R::File: IsTerminal,
-        ensures { Fits result buffer.new }
+        ensures { IfSome result (λ source. length source.now ≤ length room.old) }
     {
         match system::open(self.rt, path) {
-            Ok(mut file) => self.load(&mut file, buffer, path),
+            Ok(mut file) => {
+                let n = self.load(&mut file, room, path)?;
+                Some(&room[..n])
+            }
             Err(e) => {
                 self.fail("cannot read ", path, &e);
                 None
@@ -74,11 +78,11 @@ impl<R: EprintBytes + Files> Console<'_, R> {
 }
 
 impl<R: EprintBytes + Input> Console<'_, R> {
-    // Standard input's bytes. At a terminal nothing happens until the input is ended, so the user is told how.
-    pub fn load_input(&self, buffer: &mut [u8]) -> Option<usize>
+    // Standard input's bytes, likewise. At a terminal nothing happens until the input is ended, so the user is told how.
+    pub fn load_input<'b>(&self, room: &'b mut [u8]) -> Option<&'b [u8]>
     where
         R::Reader: IsTerminal,
-        ensures { Fits result buffer.new }
+        ensures { IfSome result (λ input. length input.now ≤ length room.old) }
     {
         let mut input = self.rt.reader();
         if input.is_terminal() {
@@ -86,6 +90,7 @@ impl<R: EprintBytes + Input> Console<'_, R> {
                 "type the program's input, if it reads any; Ctrl-D at the start of a line ends it.\n",
             );
         }
-        self.load(&mut input, buffer, b"standard input")
+        let n = self.load(&mut input, room, b"standard input")?;
+        Some(&room[..n])
     }
 }

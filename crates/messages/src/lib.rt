@@ -22,4 +22,4 @@ pub use given::ROOM;
 pub use running::OUTPUT_ROOM;
 pub use speaking::Console;
 pub use starting::{Program, start};
-pub use system::{EprintBytes, NAME_ROOM, arg_count, fail, open, read_full};
+pub use system::{EprintBytes, NAME_ROOM, arg_count, fail, open, read_full, zeros};

@@ -1,6 +1,5 @@
 // A program's beginning: what its command line asks for, and the source that is given.
-ghost use Rattle.std.specs.Prelude.{◌≡◌, ◌≤◌, Some};
-ghost use Rattle.messages.specs.Fits.{Fits};
+ghost use Rattle.std.specs.Prelude.{◌≡◌, ◌≤◌, IfSome, Some, length};
 
 use crate::given::budget_of;
 use crate::speaking::Console;
@@ -43,11 +42,11 @@ const BUDGET: u64 = 1000000000;
 
 impl<R: Env + EprintBytes> Console<'_, R> {
     // The argument that is the name of a file. If it cannot be had, that is said.
-    pub fn file_argument(&self, at: usize, buffer: &mut [u8]) -> Option<usize>
-        ensures { Fits result buffer.new }
+    pub fn file_argument<'b>(&self, at: usize, room: &'b mut [u8]) -> Option<&'b [u8]>
+        ensures { IfSome result (λ name. length name.now ≤ length room.old) }
     {
-        match self.rt.arg(at, buffer) {
-            Ok(n) => Some(n),
+        match self.rt.arg(at, room) {
+            Ok(n) => Some(&room[..n]),
             Err(e) => {
                 self.fail("", b"FILE", &system::argument_error(e));
                 None
@@ -118,19 +117,18 @@ where
         return;
     }
     let mut name = [0; NAME_ROOM];
-    let Some(n) = console.file_argument(1, &mut name) else {
+    let Some(first) = console.file_argument(1, &mut name) else {
         return;
     };
-    let Some((task, file)) = console.task::<P>(&name[..n], count) else {
+    let Some((task, file)) = console.task::<P>(first, count) else {
         return;
     };
-    let Some(n) = console.file_argument(file, &mut name) else {
+    let Some(path) = console.file_argument(file, &mut name) else {
         return;
     };
-    let Some(m) = console.load_file(&name[..n], room) else {
+    let Some(source) = console.load_file(path, room) else {
         return;
     };
-    let source = &room[..m];
     match task {
         Task::Run { budget, asks } => P::run(&console, source, budget, asks),
         Task::Show => P::show(&console, source),

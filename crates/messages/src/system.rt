@@ -1,5 +1,5 @@
 // What the programs ask of the system, over std: arguments and files by their bytes, standard error for bytes, an error's own words.
-ghost use Rattle.std.specs.Prelude.{◌≤◌, length};
+ghost use Rattle.std.specs.Prelude.{◌≡◌, ◌≤◌, length};
 
 use std::env::{Env, FillError};
 use std::fmt::InlineText;
@@ -21,6 +21,13 @@ impl EprintBytes for HostRuntime {
 
 // As many bytes as the name of any file has.
 pub const NAME_ROOM: usize = 4096;
+
+// Zeros, lent where they are many: of an array written out the check counts the elements, and of a million it cannot.
+pub fn zeros<const N: usize>() -> [u8; N]
+    ensures { length result ≡ N }
+{
+    [0; N]
+}
 
 // Reads until the buffer is full, the input ends or a read fails; how many bytes were read.
 pub fn read_full(reader: &mut impl Read, buffer: &mut [u8]) -> usize
