@@ -8,9 +8,6 @@
 // is `execution`'s to promise.
 #![tactic(auto)]
 
-ghost use Rattle.std.specs.Prelude.{length};
-ghost use Rattle.messages.specs.Fits.{Fits};
-
 use compiler::Compiled;
 use execution::Executed;
 use messages::{Console, EprintBytes, OUTPUT_ROOM, Program, ROOM};
@@ -27,27 +24,20 @@ const TEXT_ROOM: usize = 1049600;
 
 const WORDS: usize = 32768;
 
-// The length of the text, which stands in `text`; none if the source is refused, which is then said.
-fn compile<R: EprintBytes + Print>(
+// The text, in the room that is lent; none if the source is refused, which is then said.
+fn compile<'a, R: EprintBytes + Print>(
     console: &Console<'_, R>,
     source: &[u8],
-    text: &mut [u8],
-) -> Option<usize>
-    ensures { Fits result text.new }
-{
+    room: &'a mut [u8],
+) -> Option<&'a [u8]> {
     let mut scratch = [0; SCRATCH];
-    match compiler::compile(source, &mut scratch, text) {
-        Compiled::Accepted(n) => Some(n),
+    match compiler::compile(source, &mut scratch, room) {
+        Compiled::Accepted(n) => Some(&room[..n]),
         Compiled::Refused(r) => {
             console.say_refusal(source, r);
             None
         }
     }
-}
-
-// Whether the source compiles, its refusal told: so that no input is asked for in vain.
-fn compiles<R: EprintBytes + Print>(console: &Console<'_, R>, source: &[u8]) -> bool {
-    compile(console, source, &mut [0; TEXT_ROOM]).is_some()
 }
 
 fn execute<R: EprintBytes + Files + Print>(
@@ -58,7 +48,7 @@ fn execute<R: EprintBytes + Files + Print>(
     asks: bool,
 ) {
     let mut scratch = [0; SCRATCH];
-    let mut text = [0; TEXT_ROOM];
+    let mut text = messages::zeros::<TEXT_ROOM>();
     let mut memory = [0; WORDS];
     let mut output = [0; OUTPUT_ROOM];
     match execution::execute(
@@ -104,19 +94,21 @@ impl Program for Bcpl {
     where
         R::Reader: IsTerminal,
     {
-        if !compiles(console, source) {
+        // So that no input is asked for in vain.
+        let mut text = messages::zeros::<TEXT_ROOM>();
+        if compile(console, source, &mut text).is_none() {
             return;
         }
-        let mut input = [0; ROOM];
-        if let Some(n) = console.load_input(&mut input) {
-            execute(console, source, &input[..n], budget, asks);
+        let mut input = messages::zeros::<ROOM>();
+        if let Some(input) = console.load_input(&mut input) {
+            execute(console, source, input, budget, asks);
         }
     }
 
     fn show<R: EprintBytes + Print>(console: &Console<'_, R>, source: &[u8]) {
-        let mut text = [0; TEXT_ROOM];
-        if let Some(n) = compile(console, source, &mut text) {
-            let _ = console.rt.write_all(&text[..n]);
+        let mut text = messages::zeros::<TEXT_ROOM>();
+        if let Some(text) = compile(console, source, &mut text) {
+            let _ = console.rt.write_all(text);
         }
     }
 }
