@@ -1,5 +1,5 @@
 -- The number of bytes read, once matched, is within the buffer: for the programs, which lend that part of it.
-use Rattle.std.specs.Prelude.{Option, Some, None}
+use Rattle.std.specs.Prelude.{Option, Some}
 use Rattle.laws.proofs.Basics.{ℕ, ◌≤◌, ◌≡◌, sym, List, length, take, length-take-le}
 use Rattle.messages.specs.Fits.{Fits}
 

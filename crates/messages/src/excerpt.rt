@@ -14,11 +14,8 @@ const BEFORE: usize = 64;
 // The part of its line that stands before a place.
 fn before(source: &[u8], place: usize) -> &[u8] {
     let all = &source[..place.min(source.len())];
-    let start = match all.iter().rposition(|c| *c == b'\n') {
-        Some(newline) => newline + 1,
-        None => 0,
-    };
-    &all[start..]
+    let newline = all.iter().rposition(|c| *c == b'\n');
+    &all[newline.map_or(0, |i| i + 1)..]
 }
 
 // The part of its line from a place on.

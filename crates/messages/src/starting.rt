@@ -30,11 +30,20 @@ pub trait Program {
     fn show<R: EprintBytes + Print>(console: &Console<'_, R>, source: &[u8]);
 }
 
-// What is to be done with the file.
-#[derive(Clone, Copy)]
+// What is to be done with a source; to ask is to run, and to ask for more where the budget is used up.
+#[derive(Clone, Copy, PartialEq, Eq)]
 enum Task {
-    Run { budget: u64, asks: bool },
+    Run,
+    Ask,
     Show,
+}
+
+// What a command line asks for: the file is argument `file`.
+#[derive(Clone, Copy)]
+struct Command {
+    task: Task,
+    file: usize,
+    budget: u64,
 }
 
 // The budget of a run where none is given.
@@ -72,11 +81,11 @@ impl<R: Env + EprintBytes> Console<'_, R> {
         budget
     }
 
-    // What a command line of `count` words asks for, and which argument is the file; none if that is said to be amiss.
-    fn task<P: Program>(&self, first: &[u8], count: usize) -> Option<(Task, usize)> {
-        let (shows, asks, file) = match first {
-            b"-c" => (false, true, 2),
-            [b'-', letter] if *letter == P::LETTER => (true, false, 2),
+    // What a command line of `count` words asks for; none if that is said to be amiss.
+    fn command<P: Program>(&self, first: &[u8], count: usize) -> Option<Command> {
+        let (task, file) = match first {
+            b"-c" => (Task::Ask, 2),
+            [b'-', letter] if *letter == P::LETTER => (Task::Show, 2),
             [b'-', ..] => {
                 self.tell_of(
                     "there is no option ",
@@ -86,18 +95,16 @@ impl<R: Env + EprintBytes> Console<'_, R> {
                 self.say(P::USAGE);
                 return None;
             }
-            _ => (false, false, 1),
+            _ => (Task::Run, 1),
         };
-        let most = if shows { file + 1 } else { file + 2 };
-        if count <= file || count > most {
+        // A budget may stand behind the file of a run.
+        let last = if task == Task::Show { file } else { file + 1 };
+        if count <= file || count > last + 1 {
             self.say(P::USAGE);
             return None;
         }
-        if shows {
-            return Some((Task::Show, file));
-        }
         let budget = self.budget_argument(file + 1, count)?;
-        Some((Task::Run { budget, asks }, file))
+        Some(Command { task, file, budget })
     }
 }
 
@@ -120,17 +127,18 @@ where
     let Some(first) = console.file_argument(1, &mut name) else {
         return;
     };
-    let Some((task, file)) = console.task::<P>(first, count) else {
+    let Some(command) = console.command::<P>(first, count) else {
         return;
     };
-    let Some(path) = console.file_argument(file, &mut name) else {
+    let Some(path) = console.file_argument(command.file, &mut name) else {
         return;
     };
     let Some(source) = console.load_file(path, room) else {
         return;
     };
-    match task {
-        Task::Run { budget, asks } => P::run(&console, source, budget, asks),
+    match command.task {
+        Task::Run => P::run(&console, source, command.budget, false),
+        Task::Ask => P::run(&console, source, command.budget, true),
         Task::Show => P::show(&console, source),
     }
 }

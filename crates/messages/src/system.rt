@@ -70,20 +70,17 @@ pub fn argument_error(e: FillError) -> Error {
 
 // Opens a file for reading. Std's names are text in UTF-8, so a file of any other name cannot be opened.
 pub fn open<R: Files>(rt: &R, path: &[u8]) -> io::Result<R::File> {
-    match str::from_utf8(path) {
-        Ok(name) => File::open(rt, name),
-        Err(_) => Err(Error::from_raw_os_error(NO_TEXT)),
-    }
+    let name = str::from_utf8(path).map_err(|_| Error::from_raw_os_error(NO_TEXT))?;
+    File::open(rt, name)
 }
 
 // Says what failed, and why: in the system's words, without its number, which std puts behind them.
 pub fn fail(rt: &impl EprintBytes, what: &[u8], error: &Error) {
     let shown = InlineText::<128>::of(error);
     let all = shown.as_str();
-    let words = match all.split_once(" (os error ") {
-        Some((words, _)) => words,
-        None => all,
-    };
+    let words = all
+        .split_once(" (os error ")
+        .map_or(all, |(words, _)| words);
     let _ = rt.eprint_bytes(what);
     let _ = eprintln!(rt; ": {words}");
 }
