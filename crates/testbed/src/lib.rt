@@ -80,25 +80,19 @@ pub extern "C" fn morkvasil_resume(
         memory.new output.new answer.new }
 {
     let registers = Registers {
-        a: a,
-        b: b,
-        c: c,
-        p: p,
-        g: g,
-        taken: taken,
-        written: written,
-        stored: stored,
-        from: from,
-        words: words,
+        a,
+        b,
+        c,
+        p,
+        g,
+        taken,
+        written,
+        stored,
+        from,
+        words,
     };
     let ran = machine::resume(registers, memory, input, output, budget);
     tell_run(ran, answer);
-}
-
-fn flag(b: bool) -> u64
-    ensures { result ≡ flag_of b }
-{
-    if b { 1 } else { 0 }
 }
 
 fn tell_run(ran: Ran, answer: &mut [u64; 12])
@@ -115,7 +109,7 @@ fn tell_run(ran: Ran, answer: &mut [u64; 12])
         r.c as u64,
         r.p as u64,
         r.g as u64,
-        flag(r.stored),
+        u64::from(r.stored),
         r.from as u64,
         r.words as u64,
     ];
