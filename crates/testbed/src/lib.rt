@@ -1,7 +1,7 @@
 // The library's functions exported on numbers and slices, for the comparison with the second program (tests/).
-#![tactic(auto)]
+#![tactic(auto, unfolding(text::specs::Line::refusal))]
 
-ghost use Rattle.std.specs.Prelude.{◌≡◌, length};
+ghost use Rattle.std.specs.Prelude.{◌≡◌, [], ◌∷◌, length};
 ghost use Rattle.assembler.specs.Assemble.{assembled, numbers};
 ghost use Rattle.machine.specs.Run.{resume, run};
 ghost use Rattle.machine.specs.State.{at};
@@ -12,7 +12,19 @@ use assembler::{Assembled, Label};
 use compiler::Compiled;
 use machine::{Ran, Registers};
 use symbols::SymbolsRead;
+use text::{Fault, Refusal};
 use tree::TreeRead;
+
+// The refusals at a source's first byte: it is too long, or the room for its reading too short.
+const TOO_LONG: [u64; 3] = [Fault::SourceTooLong as u64, 0, 1];
+
+const TOO_SHORT: [u64; 3] = [Fault::RoomTooShort as u64, 0, 1];
+
+fn refused(r: Refusal) -> [u64; 3]
+    ensures { result ≡ r.number ∷ r.place ∷ r.line ∷ [] }
+{
+    [u64::from(r.number), r.place as u64, r.line as u64]
+}
 
 #[unsafe(no_mangle)]
 pub extern "C" fn morkvasil_assemble(
@@ -36,7 +48,7 @@ fn tell(assembly: Assembled, answer: &mut [u64; 3])
             *answer = [0, first as u64, 0];
         }
         Assembled::Refused(r) => {
-            *answer = [r.number as u64, r.place as u64, r.line as u64];
+            *answer = refused(r);
         }
     }
 }
@@ -122,17 +134,16 @@ pub extern "C" fn morkvasil_symbols(text: &[u8], scratch: &mut [u32], answer: &m
     let read = symbols::read_symbols(text, scratch);
     match read {
         SymbolsRead::TooLong => {
-            *answer = [1, 0, 1];
+            *answer = TOO_LONG;
         }
         SymbolsRead::TooShort => {
-            *answer = [15, 0, 1];
+            *answer = TOO_SHORT;
         }
         SymbolsRead::Read(count) => {
             *answer = [0, count as u64, 0];
         }
         SymbolsRead::Refused { number, place } => {
-            let line = text::line_of(text, place);
-            *answer = [number as u64, place as u64, line as u64];
+            *answer = refused(text::refuse(text, number, place));
         }
     }
 }
@@ -144,14 +155,13 @@ fn answer_tree(text: &[u8], scratch: &mut [u32], count: usize, answer: &mut [u64
     let read = tree::read_tree(scratch, count, text.len());
     match read {
         TreeRead::TooShort => {
-            *answer = [15, 0, 1];
+            *answer = TOO_SHORT;
         }
         TreeRead::Read(end) => {
             *answer = [0, end as u64, 0];
         }
         TreeRead::Refused { number, place } => {
-            let line = text::line_of(text, place);
-            *answer = [number as u64, place as u64, line as u64];
+            *answer = refused(text::refuse(text, number, place));
         }
     }
 }
@@ -163,15 +173,14 @@ pub extern "C" fn morkvasil_tree(text: &[u8], scratch: &mut [u32], answer: &mut 
     let read = symbols::read_symbols(text, scratch);
     match read {
         SymbolsRead::TooLong => {
-            *answer = [1, 0, 1];
+            *answer = TOO_LONG;
         }
         SymbolsRead::TooShort => {
-            *answer = [15, 0, 1];
+            *answer = TOO_SHORT;
         }
         SymbolsRead::Read(count) => answer_tree(text, scratch, count, answer),
         SymbolsRead::Refused { number, place } => {
-            let line = text::line_of(text, place);
-            *answer = [number as u64, place as u64, line as u64];
+            *answer = refused(text::refuse(text, number, place));
         }
     }
 }
@@ -192,7 +201,7 @@ pub extern "C" fn morkvasil_compile(
             *answer = [0, length as u64, 0];
         }
         Compiled::Refused(r) => {
-            *answer = [r.number as u64, r.place as u64, r.line as u64];
+            *answer = refused(r);
         }
     }
 }
