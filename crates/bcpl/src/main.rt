@@ -40,6 +40,12 @@ fn compile<'a, R: EprintBytes + Print>(
     }
 }
 
+// So that no input is asked for in vain. The room is let go before the input's is taken.
+fn compiles<R: EprintBytes + Print>(console: &Console<'_, R>, source: &[u8]) -> bool {
+    let mut room = messages::zeros::<TEXT_ROOM>();
+    compile(console, source, &mut room).is_some()
+}
+
 fn execute<R: EprintBytes + Files + Print>(
     console: &Console<'_, R>,
     source: &[u8],
@@ -94,9 +100,7 @@ impl Program for Bcpl {
     where
         R::Reader: IsTerminal,
     {
-        // So that no input is asked for in vain.
-        let mut text = messages::zeros::<TEXT_ROOM>();
-        if compile(console, source, &mut text).is_none() {
+        if !compiles(console, source) {
             return;
         }
         let mut input = messages::zeros::<ROOM>();
@@ -106,8 +110,8 @@ impl Program for Bcpl {
     }
 
     fn show<R: EprintBytes + Print>(console: &Console<'_, R>, source: &[u8]) {
-        let mut text = messages::zeros::<TEXT_ROOM>();
-        if let Some(text) = compile(console, source, &mut text) {
+        let mut room = messages::zeros::<TEXT_ROOM>();
+        if let Some(text) = compile(console, source, &mut room) {
             let _ = console.rt.write_all(text);
         }
     }

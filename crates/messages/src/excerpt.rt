@@ -74,7 +74,7 @@ fn last(bytes: &[u8], most: usize) -> &[u8]
 }
 
 fn first(bytes: &[u8], most: usize) -> &[u8] {
-    &bytes[..bytes.len().min(most)]
+    bytes.get(..most).unwrap_or(bytes)
 }
 
 impl<R: EprintBytes> Console<'_, R> {

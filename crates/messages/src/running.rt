@@ -11,10 +11,9 @@ pub const OUTPUT_ROOM: usize = 65536;
 
 // Writes the bytes of the output that a run filled.
 fn flush(rt: &impl Print, output: &[u8], written: usize) -> bool {
-    if written > output.len() {
-        return false;
-    }
-    rt.write_all(&output[..written]).is_ok()
+    output
+        .get(..written)
+        .is_some_and(|bytes| rt.write_all(bytes).is_ok())
 }
 
 impl<R: EprintBytes + Files> Console<'_, R> {

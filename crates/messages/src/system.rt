@@ -29,7 +29,8 @@ pub fn zeros<const N: usize>() -> [u8; N]
     [0; N]
 }
 
-// Reads until the buffer is full, the input ends or a read fails; how many bytes were read.
+// Reads until the buffer is full, the input ends or a read fails; how many bytes were read. (Std's `read_exact` does not say how many came
+// before the end.)
 pub fn read_full(reader: &mut impl Read, buffer: &mut [u8]) -> usize
     ensures { result ≤ length buffer.new }
 {
@@ -61,6 +62,7 @@ const TOO_LONG: i32 = 36;
 
 const NO_TEXT: i32 = 84;
 
+// Both types are std's, so this is no `From`.
 pub fn argument_error(e: FillError) -> Error {
     Error::from_raw_os_error(match e {
         FillError::NotPresent => INVALID,
