@@ -81,7 +81,7 @@ fn execute<R: EprintBytes + Files + Print>(
 struct Bcpl;
 
 impl Program for Bcpl {
-    const NAME: &'static str = "bcpl";
+    const NAME: &'static [u8] = b"bcpl";
 
     const USAGE: &'static str =
         "usage: bcpl FILE [BUDGET] < input    runs a BCPL source, for BUDGET instructions at most\n       \

@@ -7,7 +7,7 @@ use std::io::Error;
 #[derive_where(Clone, Copy)]
 pub struct Console<'a, R> {
     pub rt: &'a R,
-    pub program: &'a str,
+    pub program: &'a [u8],
 }
 
 // What cannot be said is lost, since there is nowhere else to say so.
@@ -18,8 +18,8 @@ impl<R: EprintBytes> Console<'_, R> {
 
     // With the program's name before it.
     pub fn tell<D: Display + Drop>(&self, words: D) {
-        let program = self.program;
-        let _ = eprint!(self.rt; "{program}: {words}");
+        let _ = self.rt.eprint_bytes(self.program);
+        let _ = eprint!(self.rt; ": {words}");
     }
 
     // A name or an option, which need not be text, with more around it.

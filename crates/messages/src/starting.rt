@@ -10,7 +10,7 @@ use std::rt::{Env, Files};
 
 // A program of a source: it runs one or, by an option of its own, shows what it makes of it.
 pub trait Program {
-    const NAME: &'static str;
+    const NAME: &'static [u8];
 
     const USAGE: &'static str;
 

@@ -34,7 +34,7 @@ fn assemble<R: EprintBytes + Print>(
 struct Minicode;
 
 impl Program for Minicode {
-    const NAME: &'static str = "minicode";
+    const NAME: &'static [u8] = b"minicode";
 
     const USAGE: &'static str =
         "usage: minicode FILE [BUDGET] < input    runs a MINICODE text, for BUDGET instructions at most\n       \
