@@ -10,30 +10,29 @@ use Rattle.machine.specs.Answers.{Ends}
 use Rattle.machine.proofs.Parts.{came-out}
 use Rattle.machine.specs.declared.Ran.{Ran}
 use Rattle.assembler.specs.Passes.{Loads}
-use Rattle.std.specs.Prelude.{Result, Ok, Err}
 use Rattle.language.specs.Program.{Refused, accepted, refused}
 use Rattle.language.specs.Whole.{strings_in}
 use Rattle.code.specs.Faithful.{placement_of, Follows}
 use Rattle.code.specs.Generate.{text_of}
 use Rattle.compiler.specs.Compiles.{decided, answer_of, text_after, Compiles}
-use Rattle.execution.specs.declared.Executed.{Executed}
-use Rattle.execution.specs.declared.Executed.TheVariants as E
+use Rattle.execution.specs.declared.NotRun.{NotRun}
+use Rattle.execution.specs.declared.NotRun.TheVariants as N
 use Rattle.execution.specs.Executes.{image, RanBy, RunsText, ExecutedBy, Delivers, Executes}
 
 -- ---- a text
 
 module _ {text memory memory₁ input output : List ℕ} {budget : ℕ} {a : Result ℕ Refusal} (l : Loads (image text (length memory)) a memory₁) where
-  pub text-refused : {r : Refusal} → a ≡ Err r → RunsText text memory memory₁ input output output budget (E.Unassembled r)
+  pub text-refused : {r : Refusal} → a ≡ Err r → RunsText text memory memory₁ input output output budget (Err (N.Text r))
   text-refused {r} e = record {
-    by = subst (λ (x : Result ℕ Refusal). RanBy (image text (length memory)) x memory₁ input output output budget (E.Unassembled r)) (sym e ∙ l.answers)
+    by = subst (λ (x : Result ℕ Refusal). RanBy (image text (length memory)) x memory₁ input output output budget (Err (N.Text r))) (sym e ∙ l.answers)
         (refl, l.fills, refl);
   }
 
   pub text-ran : {first : ℕ} {ran : Ran} {memory₂ output₂ : List ℕ} → a ≡ Ok first
       → Ends (run first memory₁ input output budget) ran memory₂ output₂
-      → RunsText text memory memory₂ input output output₂ budget (E.Ran ran)
+      → RunsText text memory memory₂ input output output₂ budget (Ok ran)
   text-ran {first} {ran} {memory₂} {output₂} e x = record {
-    by = subst (λ (x : Result ℕ Refusal). RanBy (image text (length memory)) x memory₂ input output output₂ budget (E.Ran ran)) (sym e ∙ l.answers)
+    by = subst (λ (x : Result ℕ Refusal). RanBy (image text (length memory)) x memory₂ input output output₂ budget (Ok ran)) (sym e ∙ l.answers)
         (record {
           ran = ran;
           answers = refl;
@@ -48,7 +47,7 @@ module _ {source scratch scratch' text text' : List ℕ} {a : Result ℕ Refusal
   d = decided source (length scratch) (length text)
 
   pub source-refused : {memory input output : List ℕ} {budget : ℕ} {r : Refusal} → a ≡ Err r
-      → Executes source scratch scratch' text text' memory memory input output output budget (E.Uncompiled r)
+      → Executes source scratch scratch' text text' memory memory input output output budget (Err (N.Source r))
   source-refused {memory} {input} {output} {budget} {r} e = record {
     clears = c.clears;
     writes = c.writes;
@@ -56,9 +55,9 @@ module _ {source scratch scratch' text text' : List ℕ} {a : Result ℕ Refusal
     delivers = λ ran q. contradiction cc;
   }
     where
-      go : (x : Refused) → Err r ≡ answer_of source x → ExecutedBy source x memory memory input output output budget (E.Uncompiled r)
+      go : (x : Refused) → Err r ≡ answer_of source x → ExecutedBy source x memory memory input output output budget (Err (N.Source r))
       go accepted q = contradiction cc
-      go (refused number place) q = let z : r ≡ refusal source number place = cc in (ap E.Uncompiled z, refl, refl)
+      go (refused number place) q = let z : r ≡ refusal source number place = cc in (ap (λ (w : Refusal). Err (N.Source w)) z, refl, refl)
 
   -- what is accepted is the generator's text, at the front
   pub record Front (n : ℕ) : Type 0 where
@@ -84,12 +83,12 @@ module _ {source scratch scratch' text text' : List ℕ} {a : Result ℕ Refusal
   pub text-front : {n : ℕ} → a ≡ Ok n → n ≡ length (take n text')
   text-front {n} e = sym (length-take-le n text' (text-fits e))
 
-  module _ {n : ℕ} (e : a ≡ Ok n) {memory memory' input output output' : List ℕ} {budget : ℕ} {x : Executed}
+  module _ {n : ℕ} (e : a ≡ Ok n) {memory memory' input output output' : List ℕ} {budget : ℕ} {x : Result Ran NotRun}
       (r : RunsText (take n text') memory memory' input output output' budget x) where
     runs : RunsText (text_of source) memory memory' input output output' budget x
     runs = subst (λ (t : List ℕ). RunsText t memory memory' input output output' budget x) (front e).text-is r
 
-    delivered : (ran : Ran) → x ≡ E.Ran ran → Delivers source memory memory' input output output' budget ran
+    delivered : (ran : Ran) → x ≡ Ok ran → Delivers source memory memory' input output output' budget ran
     delivered ran q = record {
       follows = λ first k s over below. let came = go (image (text_of source) (length memory)).answer first k runs.by in
           subst (Follows (strings_in source) (placement_of source (image (text_of source) (length memory)).table first) s (length output) budget)

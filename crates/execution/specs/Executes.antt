@@ -13,8 +13,8 @@ use Rattle.language.specs.Whole.{strings_in, SourceRunEnds}
 use Rattle.code.specs.Faithful.{placement_of, Follows}
 use Rattle.code.specs.Generate.{text_of}
 use Rattle.compiler.specs.Compiles.{decided, text_after}
-use Rattle.execution.specs.declared.Executed.{Executed}
-use Rattle.execution.specs.declared.Executed.TheVariants as E
+use Rattle.execution.specs.declared.NotRun.{NotRun}
+use Rattle.execution.specs.declared.NotRun.TheVariants as N
 
 -- ---- a text, assembled with room for every label
 
@@ -22,25 +22,25 @@ abbrev pub image : (text : List ℕ) (memory : ℕ) → Assembly
 image text memory = assembled text memory 32767
 
 -- the machine's run of the image, from its start
-pub record RanFrom (a : Assembly) (first : ℕ) (memory' input output output' : List ℕ) (budget : ℕ) (executed : Executed) : Type 0 where
+pub record RanFrom (a : Assembly) (first : ℕ) (memory' input output output' : List ℕ) (budget : ℕ) (executed : Result Ran NotRun) : Type 0 where
   pub ran : Ran
-  pub answers : executed ≡ E.Ran ran
+  pub answers : executed ≡ Ok ran
   pub ends : Ends (run first a.memory input output budget) ran memory' output'
 
 -- refused, with memory as the assembler leaves it and the output untouched; or run
-abbrev pub RanBy : (a : Assembly) → Result ℕ Refusal → (memory' input output output' : List ℕ) (budget : ℕ) → Executed → Type 0
-RanBy a (Err r) memory' input output output' budget executed = (executed ≡ E.Unassembled r) × (memory' ≡ a.memory) × (output' ≡ output)
+abbrev pub RanBy : (a : Assembly) → Result ℕ Refusal → (memory' input output output' : List ℕ) (budget : ℕ) → Result Ran NotRun → Type 0
+RanBy a (Err r) memory' input output output' budget executed = (executed ≡ Err (N.Text r)) × (memory' ≡ a.memory) × (output' ≡ output)
 RanBy a (Ok first) memory' input output output' budget executed = RanFrom a first memory' input output output' budget executed
 
-pub record RunsText (text memory memory' input output output' : List ℕ) (budget : ℕ) (executed : Executed) : Type 0 where
+pub record RunsText (text memory memory' input output output' : List ℕ) (budget : ℕ) (executed : Result Ran NotRun) : Type 0 where
   pub by : RanBy (image text (length memory)) (image text (length memory)).answer memory' input output output' budget executed
 
 -- ---- a source
 
 -- refused, with memory and output untouched; or its text assembled and run
-abbrev pub ExecutedBy : (source : List ℕ) → Refused → (memory memory' input output output' : List ℕ) (budget : ℕ) → Executed → Type 0
+abbrev pub ExecutedBy : (source : List ℕ) → Refused → (memory memory' input output output' : List ℕ) (budget : ℕ) → Result Ran NotRun → Type 0
 ExecutedBy source (refused number place) memory memory' input output output' budget executed =
-    (executed ≡ E.Uncompiled (refusal source number place)) × (memory' ≡ memory) × (output' ≡ output)
+    (executed ≡ Err (N.Source (refusal source number place))) × (memory' ≡ memory) × (output' ≡ output)
 ExecutedBy source accepted memory memory' input output output' budget executed =
     RunsText (text_of source) memory memory' input output output' budget executed
 
@@ -53,10 +53,10 @@ pub record Delivers (source memory memory' input output output' : List ℕ) (bud
       → Follows (strings_in source) (placement_of source (image (text_of source) (length memory)).table first) s (length output) budget
       (outcome_of ran memory' output')
 
-pub record Executes (source scratch scratch' text text' memory memory' input output output' : List ℕ) (budget : ℕ) (executed : Executed)
+pub record Executes (source scratch scratch' text text' memory memory' input output output' : List ℕ) (budget : ℕ) (executed : Result Ran NotRun)
     : Type 0 where
   -- scratch and text as `compile` leaves them
   pub clears : scratch' ≡ replicate (length scratch) 0
   pub writes : text' ≡ text_after source (length text) (decided source (length scratch) (length text))
   pub becomes : ExecutedBy source (decided source (length scratch) (length text)) memory memory' input output output' budget executed
-  pub delivers : (ran : Ran) → executed ≡ E.Ran ran → Delivers source memory memory' input output output' budget ran
+  pub delivers : (ran : Ran) → executed ≡ Ok ran → Delivers source memory memory' input output output' budget ran

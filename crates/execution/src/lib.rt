@@ -5,16 +5,15 @@ ghost use Rattle.std.specs.Prelude.{◌≤◌, length, take};
 ghost use Rattle.execution.specs.Executes.{Executes, RunsText};
 
 use assembler::load;
-use compiler::{Compiled, compile};
+use compiler::compile;
 use machine::{Ran, run};
 use text::Refusal;
 
-// What became of it: refused as a source, refused as a text that does not fit the memory, or run.
+// Why there was no run: the source is refused, or its text, which does not fit the memory.
 #[derive(Drop)]
-pub enum Executed {
-    Uncompiled(Refusal),
-    Unassembled(Refusal),
-    Ran(Ran),
+pub enum NotRun {
+    Source(Refusal),
+    Text(Refusal),
 }
 
 // The assembling and the run.
@@ -24,14 +23,12 @@ fn run_text(
     input: &[u8],
     output: &mut [u8],
     budget: u64,
-) -> Executed
+) -> Result<Ran, NotRun>
     ensures { RunsText text.now memory.old memory.new input.now output.old
         output.new budget result }
 {
-    match load(text, memory) {
-        Err(r) => Executed::Unassembled(r),
-        Ok(first) => Executed::Ran(run(memory, first, input, output, budget)),
-    }
+    let first = load(text, memory).map_err(NotRun::Text)?;
+    Ok(run(memory, first, input, output, budget))
 }
 
 // Compiles a source, assembles its text and runs the image with that input.
@@ -43,12 +40,10 @@ pub fn execute(
     input: &[u8],
     output: &mut [u8],
     budget: u64,
-) -> Executed
+) -> Result<Ran, NotRun>
     ensures { Executes source.now scratch.old scratch.new text.old text.new
         memory.old memory.new input.now output.old output.new budget result }
 {
-    match compile(source, scratch, text) {
-        Compiled::Refused(r) => Executed::Uncompiled(r),
-        Compiled::Accepted(n) => run_text(&text[..n], memory, input, output, budget),
-    }
+    let n = compile(source, scratch, text).map_err(NotRun::Source)?;
+    run_text(&text[..n], memory, input, output, budget)
 }

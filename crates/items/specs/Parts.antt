@@ -1,5 +1,5 @@
 -- What the code's readers of parts answer: the part and the number of bytes that write it.
-use Rattle.std.specs.Prelude.{ℕ, ◌≡◌, Bool, true, false, not, cond, List, length, eqb, ltb, Option, Some, None, MatchOption}
+use Rattle.std.specs.Prelude.{ℕ, ◌≡◌, Bool, true, false, not, cond, List, length, eqb, ltb, Option, Some, None, MatchOption, IfSome, ◌≤◌}
 use Rattle.items.specs.Item.{string}
 use Rattle.items.specs.Reader as R
 use Rattle.items.specs.Read.{quoted_string, function_of}
@@ -14,6 +14,10 @@ as_got f None = R.nothing
 abbrev pub as_part : {A B : Type 0} → (A → B) → R.Got A → Option (Part B)
 as_part f (R.got v n) = Some (record { value = f v; width = n })
 as_part f R.nothing = None
+
+-- a part that was read is written by no more bytes than there are
+abbrev pub Within : {A : Type 0} → List ℕ → Option (Part A) → Type 0
+Within bytes r = IfSome r (λ p. p.width ≤ length bytes)
 
 -- a string's characters, or that none are closed here: the code holds their number
 pub record CharactersRead (bytes : List ℕ) (p : Part ℕ) : Type 0 where

@@ -5,14 +5,14 @@
 // write it.
 #![tactic(auto)]
 
-ghost use Rattle.std.specs.Prelude.{◌≡◌, ◌≤◌, true, false, cond, IfSome, length};
+ghost use Rattle.std.specs.Prelude.{◌≡◌, ◌≤◌, true, false, cond, length};
 ghost use Rattle.items.specs.Reader.{got, nothing, optional, decimal};
 ghost use Rattle.items.specs.Read.{ended, quoted_character, operand, base, label_item, instruction_item, constant_item};
 ghost use Rattle.items.specs.Read.{string_item, global_item, item};
 ghost use Rattle.items.specs.Scan.{gaps, mark};
 ghost use Rattle.items.specs.Next.{next_in, start_in};
 ghost use Rattle.items.specs.Answers.{operand_of, base_of, as_item, as_next, as_start};
-ghost use Rattle.items.specs.Parts.{as_got, as_part, function_in, Characters, in_gap, in_comment};
+ghost use Rattle.items.specs.Parts.{as_got, as_part, Within, function_in, Characters, in_gap, in_comment};
 
 use text::Closed;
 
@@ -121,7 +121,7 @@ fn marked(bytes: &[u8], c: u8) -> bool
 #[tactic(auto, using(crate::proofs::Decimals::digit_steps), unfolding(crate::specs::Reader::decimal, crate::specs::Reader::head))]
 fn read_decimal(bytes: &[u8]) -> Option<Part<u32>>
     ensures reads { as_got (λ n. n) result ≡ decimal bytes.now }
-    ensures within { IfSome result (λ p. p.width ≤ length bytes.now) }
+    ensures within { Within bytes.now result }
 {
     let [b'0'..=b'9', ..] = bytes else {
         return None;
@@ -142,7 +142,7 @@ fn read_decimal(bytes: &[u8]) -> Option<Part<u32>>
 // A character, from past its first quote on.
 fn read_quoted(bytes: &[u8]) -> Option<Part<Operand>>
     ensures reads { as_got operand_of result ≡ quoted_character bytes.now }
-    ensures within { IfSome result (λ p. p.width ≤ length bytes.now) }
+    ensures within { Within bytes.now result }
 {
     let Ok(Closed { width, .. }) = text::quoted_at(bytes, 0, b'\'', 1) else {
         return None;
@@ -160,7 +160,7 @@ fn read_quoted(bytes: &[u8]) -> Option<Part<Operand>>
 #[tactic(auto, unfolding(crate::specs::Read::operand, crate::specs::Read::negative, crate::specs::Read::labelled, crate::specs::Read::positive, crate::specs::Read::quotation, crate::specs::Reader::byte, crate::specs::Reader::head))]
 fn read_operand(bytes: &[u8]) -> Option<Part<Operand>>
     ensures reads { as_got operand_of result ≡ operand bytes.now }
-    ensures within { IfSome result (λ p. p.width ≤ length bytes.now) }
+    ensures within { Within bytes.now result }
 {
     match bytes {
         [b'-', rest @ ..] => {
@@ -239,7 +239,7 @@ fn read_indirect(bytes: &[u8]) -> Part<bool>
 #[tactic(auto, unfolding(crate::specs::Read::instruction_item, crate::specs::Answers::as_item))]
 fn read_instruction(bytes: &[u8], function: u16) -> Option<Part<Item>>
     ensures reads { result ≡ as_part as_item (instruction_item function bytes.now) }
-    ensures within { IfSome result (λ p. p.width ≤ length bytes.now) }
+    ensures within { Within bytes.now result }
 {
     let indirect = read_indirect(bytes);
     let rest = &bytes[indirect.width..];
@@ -259,7 +259,7 @@ fn read_instruction(bytes: &[u8], function: u16) -> Option<Part<Item>>
 #[tactic(auto, unfolding(crate::specs::Read::constant_item, crate::specs::Answers::as_item))]
 fn read_constant(bytes: &[u8]) -> Option<Part<Item>>
     ensures reads { result ≡ as_part as_item (constant_item bytes.now) }
-    ensures within { IfSome result (λ p. p.width ≤ length bytes.now) }
+    ensures within { Within bytes.now result }
 {
     let operand = read_operand(bytes)?;
     if !ended(&bytes[operand.width..]) {
@@ -274,7 +274,7 @@ fn read_constant(bytes: &[u8]) -> Option<Part<Item>>
 #[tactic(auto, unfolding(crate::specs::Read::label_item, crate::specs::Reader::byte, crate::specs::Reader::head, crate::specs::Answers::as_item))]
 fn read_label(bytes: &[u8]) -> Option<Part<Item>>
     ensures reads { result ≡ as_part as_item (label_item bytes.now) }
-    ensures within { IfSome result (λ p. p.width ≤ length bytes.now) }
+    ensures within { Within bytes.now result }
 {
     let label = read_decimal(bytes)?;
     let [b':', ..] = &bytes[label.width..] else {
@@ -289,7 +289,7 @@ fn read_label(bytes: &[u8]) -> Option<Part<Item>>
 // A string's characters, from past its first quote on, by their number.
 fn read_characters(bytes: &[u8]) -> Option<Part<usize>>
     ensures reads { Characters bytes.now result }
-    ensures within { IfSome result (λ p. p.width ≤ length bytes.now) }
+    ensures within { Within bytes.now result }
 {
     let Ok(Closed { characters, width }) = text::quoted_at(bytes, 0, b'"', 255) else {
         return None;
@@ -304,7 +304,7 @@ fn read_characters(bytes: &[u8]) -> Option<Part<usize>>
 #[tactic(auto, unfolding(crate::specs::Read::string_item, crate::specs::Reader::byte, crate::specs::Reader::head, crate::specs::Answers::as_item))]
 fn read_string(bytes: &[u8]) -> Option<Part<Item>>
     ensures reads { result ≡ as_part as_item (string_item bytes.now) }
-    ensures within { IfSome result (λ p. p.width ≤ length bytes.now) }
+    ensures within { Within bytes.now result }
 {
     let [b'"', rest @ ..] = bytes else {
         return None;
@@ -323,7 +323,7 @@ fn read_string(bytes: &[u8]) -> Option<Part<Item>>
 #[tactic(auto, unfolding(crate::specs::Read::global_item, crate::specs::Reader::byte, crate::specs::Reader::head, crate::specs::Answers::as_item))]
 fn read_global(bytes: &[u8]) -> Option<Part<Item>>
     ensures reads { result ≡ as_part as_item (global_item bytes.now) }
-    ensures within { IfSome result (λ p. p.width ≤ length bytes.now) }
+    ensures within { Within bytes.now result }
 {
     let global = read_decimal(bytes)?;
     let [b'L', rest @ ..] = &bytes[global.width..] else {
@@ -360,7 +360,7 @@ fn function_of(c: u8) -> Option<u16>
 #[tactic(auto, unfolding(crate::specs::Read::item, crate::specs::Read::function_of, crate::specs::Reader::head))]
 fn read_item(bytes: &[u8]) -> Option<Part<Item>>
     ensures reads { result ≡ as_part as_item (item bytes.now) }
-    ensures within { IfSome result (λ p. p.width ≤ length bytes.now) }
+    ensures within { Within bytes.now result }
 {
     let [c, rest @ ..] = bytes else {
         return None;

@@ -222,7 +222,7 @@ impl Registers {
     }
 
     // The instruction at C. L, LIP, SP and X with a short address, the commonest, are told by one test of the word.
-    #[tactic(auto, using(crate::proofs::Fetching::fetch_l, crate::proofs::Fetching::fetch_x, crate::proofs::Fetching::fetch_sp, crate::proofs::Fetching::fetch_lip, crate::proofs::Fetching::fetch_any))]
+    #[tactic(auto, using(crate::proofs::Fetching::fetch_l, crate::proofs::Fetching::fetch_x, crate::proofs::Fetching::fetch_lip, crate::proofs::Fetching::fetch_any))]
     fn fetch(self, memory: &[u16]) -> Result<Fetched, Stop>
         ensures { out_of result ≡ as_fetched self (fetch self memory.now) }
     {
@@ -401,7 +401,7 @@ impl Registers {
     }
 
     // The function f with its operand x, C being past the instruction.
-    #[tactic(auto, using(crate::proofs::Numbers::function_at, crate::proofs::Numbers::function_x), unfolding(crate::specs::Step::execute, crate::specs::Step::jumped, crate::specs::Step::keep, crate::specs::Answers::left))]
+    #[tactic(auto, using(crate::proofs::Numbers::function_at), unfolding(crate::specs::Step::execute, crate::specs::Step::jumped, crate::specs::Step::keep, crate::specs::Answers::left))]
     fn execute(
         self,
         f: u16,

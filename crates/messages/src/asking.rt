@@ -1,55 +1,59 @@
 // A further budget, asked for at the terminal, whatever standard input is.
-use crate::given::{Budget, budget_of};
+ghost use Rattle.std.specs.Prelude.{◌<◌, IfSome};
+
+use crate::given::budget_of;
+use crate::speaking::Console;
 use crate::system;
-use crate::system::{EprintBytes, say};
+use crate::system::{EprintBytes, NAME_ROOM};
 use std::io::Read;
 use std::rt::Files;
 
-// The budget in one line from the terminal: 0 for an empty line, or none.
-fn read_answer(rt: &impl EprintBytes, terminal: &mut impl Read) -> Budget {
-    let mut line = system::buffer();
-    let n = terminal.read(&mut line).unwrap_or(0);
-    if n == 0 {
-        say(rt, b"\n");
-        return Budget::Is(0);
-    }
-    if line[n - 1] != 10 {
-        return Budget::Not;
-    }
-    if n == 1 {
-        return Budget::Is(0);
-    }
-    budget_of(&line[..n - 1])
-}
+// How often the user may answer with what is no number.
+const TRIES: u64 = 3;
 
-// Asks until the answer is a number, three times at most.
-fn answer(rt: &impl EprintBytes, program: &[u8], terminal: &mut impl Read) -> u64 {
-    let mut tries: u64 = 3;
-    while tries > 0 {
-        say(rt, program);
-        say(
-            rt,
-            b": how many instructions more? (Enter alone ends the run) ",
-        );
-        match read_answer(rt, terminal) {
-            Budget::Is(m) => {
-                return m;
-            }
-            Budget::Not => say(rt, b"That is no number of instructions.\n"),
+impl<R: EprintBytes> Console<'_, R> {
+    // The budget in one line from the terminal: 0 for an empty line, none for what is no number.
+    fn read_answer(&self, terminal: &mut impl Read) -> Option<u64> {
+        let mut room = [0; NAME_ROOM];
+        let n = terminal.read(&mut room).unwrap_or(0);
+        let line = &room[..n];
+        if line.is_empty() {
+            self.say("\n");
+            return Some(0);
         }
-        tries -= 1;
+        let digits = line.strip_suffix(b"\n")?;
+        if digits.is_empty() {
+            return Some(0);
+        }
+        budget_of(digits)
     }
-    0
+
+    fn answer(&self, terminal: &mut impl Read) -> Option<u64>
+        ensures { IfSome result (λ n. 0 < n) }
+    {
+        for _ in 0..TRIES {
+            self.tell("how many instructions more? (Enter alone ends the run) ");
+            match self.read_answer(terminal) {
+                Some(0) => return None,
+                Some(n) => return Some(n),
+                None => self.say("That is no number of instructions.\n"),
+            }
+        }
+        None
+    }
 }
 
-// How many instructions more the user wants; 0 for none.
-pub fn further_budget(rt: &(impl Files + EprintBytes), program: &[u8]) -> u64 {
-    match system::open(rt, b"/dev/tty") {
-        Ok(mut terminal) => answer(rt, program, &mut terminal),
-        Err(_) => {
-            say(rt, program);
-            say(rt, b": there is no terminal to ask for a further BUDGET.\n");
-            0
+impl<R: EprintBytes + Files> Console<'_, R> {
+    // How many instructions more the user wants, if any.
+    pub fn further_budget(&self) -> Option<u64>
+        ensures { IfSome result (λ n. 0 < n) }
+    {
+        match system::open(self.rt, b"/dev/tty") {
+            Ok(mut terminal) => self.answer(&mut terminal),
+            Err(_) => {
+                self.tell("there is no terminal to ask for a further BUDGET.\n");
+                None
+            }
         }
     }
 }

@@ -1,8 +1,6 @@
 // What the programs ask of the system, over std: arguments and files by their bytes, standard error for bytes, an error's own words.
 ghost use Rattle.std.specs.Prelude.{◌≡◌, ◌≤◌, length};
-ghost use Rattle.messages.specs.Fits.{Fits};
 
-use crate::given::Loaded;
 use std::env::{Env, FillError};
 use std::fmt::InlineText;
 use std::fs::File;
@@ -21,29 +19,18 @@ impl EprintBytes for HostRuntime {
     }
 }
 
-// What cannot be said is lost, since there is nowhere else to say so.
-pub fn say(rt: &impl EprintBytes, words: &[u8]) {
-    let _ = rt.eprint_bytes(words);
-}
+// As many bytes as the name of any file has.
+pub const NAME_ROOM: usize = 4096;
 
-pub fn say_number(rt: &impl EprintBytes, n: u64) {
-    let _ = rt.eprint(n);
-}
-
-// 4,096 bytes, which hold the name of any file. The `ensures` gives the length, which lending the array needs.
-pub fn buffer() -> [u8; 4096]
-    ensures { 4096 ≡ length result }
+// Zeros, lent where they are many: of an array written out the check counts the elements, and of a million it cannot.
+pub fn zeros<const N: usize>() -> [u8; N]
+    ensures { length result ≡ N }
 {
-    [0; 4096]
+    [0; N]
 }
 
-pub fn large_buffer() -> [u8; 65536]
-    ensures { 65536 ≡ length result }
-{
-    [0; 65536]
-}
-
-// Reads until the buffer is full, the input ends or a read fails; how many bytes were read.
+// Reads until the buffer is full, the input ends or a read fails; how many bytes were read. (Std's `read_exact` does not say how many came
+// before the end.)
 pub fn read_full(reader: &mut impl Read, buffer: &mut [u8]) -> usize
     ensures { result ≤ length buffer.new }
 {
@@ -75,54 +62,27 @@ const TOO_LONG: i32 = 36;
 
 const NO_TEXT: i32 = 84;
 
-fn argument_error(e: FillError) -> Error {
-    match e {
-        FillError::NotPresent => Error::from_raw_os_error(INVALID),
-        FillError::TooLong => Error::from_raw_os_error(TOO_LONG),
-    }
-}
-
-// The argument that is the name of a file, into a buffer of `buffer`. If it cannot be had, that is said.
-pub fn file_argument(
-    rt: &(impl Env + EprintBytes),
-    program: &[u8],
-    at: usize,
-    buffer: &mut [u8],
-) -> Loaded
-    ensures { Fits result buffer.new }
-{
-    match rt.arg(at, buffer) {
-        Ok(n) => Loaded::Is(n),
-        Err(e) => {
-            say(rt, program);
-            fail(rt, b": FILE", &argument_error(e));
-            Loaded::Not
-        }
-    }
+// Both types are std's, so this is no `From`.
+pub fn argument_error(e: FillError) -> Error {
+    Error::from_raw_os_error(match e {
+        FillError::NotPresent => INVALID,
+        FillError::TooLong => TOO_LONG,
+    })
 }
 
 // Opens a file for reading. Std's names are text in UTF-8, so a file of any other name cannot be opened.
 pub fn open<R: Files>(rt: &R, path: &[u8]) -> io::Result<R::File> {
-    match str::from_utf8(path) {
-        Ok(name) => File::open(rt, name),
-        Err(_) => Err(Error::from_raw_os_error(NO_TEXT)),
-    }
+    let name = str::from_utf8(path).map_err(|_| Error::from_raw_os_error(NO_TEXT))?;
+    File::open(rt, name)
 }
 
-// Says what failed, and why.
+// Says what failed, and why: in the system's words, without its number, which std puts behind them.
 pub fn fail(rt: &impl EprintBytes, what: &[u8], error: &Error) {
-    say(rt, what);
-    say(rt, b": ");
-    say_error(rt, error);
-    say(rt, b"\n");
-}
-
-// The system's words for an error, without its number, which std puts behind them.
-fn say_error(rt: &impl EprintBytes, error: &Error) {
     let shown = InlineText::<128>::of(error);
     let all = shown.as_str();
-    match all.split_once(" (os error ") {
-        Some((words, _)) => say(rt, words.as_bytes()),
-        None => say(rt, all.as_bytes()),
-    }
+    let words = all
+        .split_once(" (os error ")
+        .map_or(all, |(words, _)| words);
+    let _ = rt.eprint_bytes(what);
+    let _ = eprintln!(rt; ": {words}");
 }

@@ -8,8 +8,6 @@ use Rattle.assembler.specs.Assemble.{Assembly}
 use Rattle.text.specs.Line.{line_of}
 use Rattle.symbols.specs.Read as S
 use Rattle.symbols.specs.Read.{symbols_read}
-use Rattle.symbols.specs.declared.SymbolsRead.{SymbolsRead}
-use Rattle.symbols.specs.declared.SymbolsRead.TheVariants as Y
 use Rattle.tree.specs.Read.{numbers_of, tree_read, tree_left}
 use Rattle.tree.specs.declared.TreeRead.{TreeRead}
 use Rattle.tree.specs.declared.TreeRead.TheVariants as T
@@ -62,11 +60,11 @@ pub record TreeAnswered (text : List ℕ) (count : ℕ) (scratch scratch' answer
   pub answers : answer ≡ tree_numbers text (tree_read scratch count (length text))
 
 -- after the reading of symbols: a refusal of theirs, or what is said of the tree
-abbrev pub AfterSymbols : (text scratch scratch' answer : List ℕ) → SymbolsRead → Type 0
-AfterSymbols text s s' answer Y.TooLong = (s' ≡ s) × (answer ≡ S.numbers text Y.TooLong)
-AfterSymbols text s s' answer Y.TooShort = (s' ≡ s) × (answer ≡ S.numbers text Y.TooShort)
-AfterSymbols text s s' answer (Y.Read count) = TreeAnswered text count s s' answer
-AfterSymbols text s s' answer (Y.Refused number place) = (s' ≡ s) × (answer ≡ S.numbers text (Y.Refused number place))
+abbrev pub AfterSymbols : (text scratch scratch' answer : List ℕ) → S.Answer → Type 0
+AfterSymbols text s s' answer S.long = (s' ≡ s) × (answer ≡ S.numbers text S.long)
+AfterSymbols text s s' answer S.short = (s' ≡ s) × (answer ≡ S.numbers text S.short)
+AfterSymbols text s s' answer (S.read count) = TreeAnswered text count s s' answer
+AfterSymbols text s s' answer (S.refused number place) = (s' ≡ s) × (answer ≡ S.numbers text (S.refused number place))
 
 pub record TreeExported (text scratch scratch' answer : List ℕ) : Type 0 where
   pub after : AfterSymbols text (symbols_read text scratch).scratch scratch' answer (symbols_read text scratch).answer

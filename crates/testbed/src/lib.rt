@@ -1,7 +1,7 @@
 // The library's functions exported on numbers and slices, for the comparison with the second program (tests/).
-#![tactic(auto)]
+#![tactic(auto, unfolding(text::specs::Line::refusal))]
 
-ghost use Rattle.std.specs.Prelude.{◌≡◌, length};
+ghost use Rattle.std.specs.Prelude.{◌≡◌, [], ◌∷◌, length};
 ghost use Rattle.assembler.specs.Assemble.{assembled, numbers};
 ghost use Rattle.machine.specs.Run.{resume, run};
 ghost use Rattle.machine.specs.State.{at};
@@ -9,11 +9,21 @@ ghost use Rattle.testbed.specs.Exported.{registers_of, flag_of, ran_numbers, Ass
 ghost use Rattle.testbed.specs.Exported.{TreeAnswered, CompileExported};
 
 use assembler::Label;
-use compiler::Compiled;
 use machine::{Ran, Registers};
-use symbols::SymbolsRead;
-use text::Refusal;
+use symbols::Unread;
+use text::{Fault, Refusal};
 use tree::TreeRead;
+
+// The refusals at a source's first byte: it is too long, or the room for its reading too short.
+const TOO_LONG: [u64; 3] = [Fault::SourceTooLong as u64, 0, 1];
+
+const TOO_SHORT: [u64; 3] = [Fault::RoomTooShort as u64, 0, 1];
+
+fn refused(r: Refusal) -> [u64; 3]
+    ensures { result ≡ r.number ∷ r.place ∷ r.line ∷ [] }
+{
+    [u64::from(r.number), r.place as u64, r.line as u64]
+}
 
 #[unsafe(no_mangle)]
 pub extern "C" fn morkvasil_assemble(
@@ -34,10 +44,10 @@ fn tell(assembly: Result<u16, Refusal>, answer: &mut [u64; 3])
 {
     match assembly {
         Ok(first) => {
-            *answer = [0, first as u64, 0];
+            *answer = [0, u64::from(first), 0];
         }
         Err(r) => {
-            *answer = [r.number as u64, r.place as u64, r.line as u64];
+            *answer = refused(r);
         }
     }
 }
@@ -81,25 +91,19 @@ pub extern "C" fn morkvasil_resume(
         memory.new output.new answer.new }
 {
     let registers = Registers {
-        a: a,
-        b: b,
-        c: c,
-        p: p,
-        g: g,
-        taken: taken,
-        written: written,
-        stored: stored,
-        from: from,
-        words: words,
+        a,
+        b,
+        c,
+        p,
+        g,
+        taken,
+        written,
+        stored,
+        from,
+        words,
     };
     let ran = machine::resume(registers, memory, input, output, budget);
     tell_run(ran, answer);
-}
-
-fn flag(b: bool) -> u64
-    ensures { result ≡ flag_of b }
-{
-    if b { 1 } else { 0 }
 }
 
 fn tell_run(ran: Ran, answer: &mut [u64; 12])
@@ -116,7 +120,7 @@ fn tell_run(ran: Ran, answer: &mut [u64; 12])
         r.c as u64,
         r.p as u64,
         r.g as u64,
-        flag(r.stored),
+        u64::from(r.stored),
         r.from as u64,
         r.words as u64,
     ];
@@ -128,18 +132,17 @@ pub extern "C" fn morkvasil_symbols(text: &[u8], scratch: &mut [u32], answer: &m
 {
     let read = symbols::read_symbols(text, scratch);
     match read {
-        SymbolsRead::TooLong => {
-            *answer = [1, 0, 1];
+        Err(Unread::TooLong) => {
+            *answer = TOO_LONG;
         }
-        SymbolsRead::TooShort => {
-            *answer = [15, 0, 1];
+        Err(Unread::TooShort) => {
+            *answer = TOO_SHORT;
         }
-        SymbolsRead::Read(count) => {
+        Ok(count) => {
             *answer = [0, count as u64, 0];
         }
-        SymbolsRead::Refused { number, place } => {
-            let line = text::line_of(text, place);
-            *answer = [number as u64, place as u64, line as u64];
+        Err(Unread::Refused { fault, place }) => {
+            *answer = refused(text::refuse(text, fault.number(), place));
         }
     }
 }
@@ -151,14 +154,13 @@ fn answer_tree(text: &[u8], scratch: &mut [u32], count: usize, answer: &mut [u64
     let read = tree::read_tree(scratch, count, text.len());
     match read {
         TreeRead::TooShort => {
-            *answer = [15, 0, 1];
+            *answer = TOO_SHORT;
         }
         TreeRead::Read(end) => {
             *answer = [0, end as u64, 0];
         }
         TreeRead::Refused { number, place } => {
-            let line = text::line_of(text, place);
-            *answer = [number as u64, place as u64, line as u64];
+            *answer = refused(text::refuse(text, number, place));
         }
     }
 }
@@ -169,16 +171,15 @@ pub extern "C" fn morkvasil_tree(text: &[u8], scratch: &mut [u32], answer: &mut 
 {
     let read = symbols::read_symbols(text, scratch);
     match read {
-        SymbolsRead::TooLong => {
-            *answer = [1, 0, 1];
+        Err(Unread::TooLong) => {
+            *answer = TOO_LONG;
         }
-        SymbolsRead::TooShort => {
-            *answer = [15, 0, 1];
+        Err(Unread::TooShort) => {
+            *answer = TOO_SHORT;
         }
-        SymbolsRead::Read(count) => answer_tree(text, scratch, count, answer),
-        SymbolsRead::Refused { number, place } => {
-            let line = text::line_of(text, place);
-            *answer = [number as u64, place as u64, line as u64];
+        Ok(count) => answer_tree(text, scratch, count, answer),
+        Err(Unread::Refused { fault, place }) => {
+            *answer = refused(text::refuse(text, fault.number(), place));
         }
     }
 }
@@ -195,11 +196,11 @@ pub extern "C" fn morkvasil_compile(
 {
     let compiled = compiler::compile(source, scratch, text);
     match compiled {
-        Compiled::Accepted(length) => {
+        Ok(length) => {
             *answer = [0, length as u64, 0];
         }
-        Compiled::Refused(r) => {
-            *answer = [r.number as u64, r.place as u64, r.line as u64];
+        Err(r) => {
+            *answer = refused(r);
         }
     }
 }

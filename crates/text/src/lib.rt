@@ -75,11 +75,10 @@ pub fn line_of(text: &[u8], place: usize) -> usize
 pub fn refuse(text: &[u8], number: u16, place: usize) -> Refusal
     ensures { result ≡ refusal text.now number place }
 {
-    let line = line_of(text, place);
     Refusal {
         number,
         place,
-        line,
+        line: line_of(text, place),
     }
 }
 
@@ -137,7 +136,7 @@ pub fn character_at(text: &[u8], at: usize, quote: u8) -> Character
         c if c == quote => Character::Closing,
         b'*' => escape(rest),
         b'\n' => Character::Ended,
-        c @ 32..=126 => Character::Is(c, 1),
+        c @ b' '..=b'~' => Character::Is(c, 1),
         _ => Character::Mistake(Fault::QuotedByte),
     }
 }

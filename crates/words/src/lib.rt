@@ -55,7 +55,6 @@ pub fn quotient(x: u16, y: u16) -> Option<u16>
 }
 
 // None for a zero divisor.
-#[tactic(auto, using(crate::proofs::Laws::rem_is))]
 pub fn remainder(x: u16, y: u16) -> Option<u16>
     ensures { result ≡ divided y (rem x y) }
 {

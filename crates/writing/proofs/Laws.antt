@@ -1,6 +1,6 @@
 -- Laws of what is written: bytes over the room, numbers, items and their lines.
 use Rattle.laws.proofs.Basics.{ℕ, zero, suc, ◌+◌, ◌/◌, ◌%◌, ◌<◌, ◌≤◌, ◌≡◌, refl, sym, ap, subst, ◌∙◌, List, [], ◌∷◌, ◌++◌, append_assoc, append-nil}
-use Rattle.laws.proofs.Basics.{Bool, false, length, set, length-append, List·getD-eq-default, ltb, leb, arith, ltb-false, lt-ltb, le-ltb, leb-true}
+use Rattle.laws.proofs.Basics.{Bool, false, length, set, length-append, ltb, leb, arith, ltb-false, lt-ltb, le-ltb, leb-true}
 use Rattle.laws.proofs.Basics.{leb-false, le-leb, lt-leb}
 use Rattle.laws.proofs.Cases.{by_cases}
 use Rattle.items.specs.Item as I
@@ -119,10 +119,6 @@ pub global-put : (n m : ℕ) {at p q z : ℕ} {t t₁ t₂ t₃ : List ℕ}
 unfolding line render
 global-put n m a b c = appends-as (appends-then a (appends-then b c))
     (ap (λ (l : List ℕ). 71 ∷ l) (append_assoc (numeral_of n) (76 ∷ numeral_of m) (10 ∷ [])))
-
-pub letter-past : (f : ℕ) → 8 ≤ f → 0 ≡ letter f
-unfolding letter
-letter-past f h = sym (List·getD-eq-default (76 ∷ 83 ∷ 65 ∷ 74 ∷ 84 ∷ 70 ∷ 75 ∷ 88 ∷ []) 0 {n = f} h)
 
 -- lines one after another
 pub lines_then : (a b : List I.Item) → lines (a ++ b) ≡ lines a ++ lines b

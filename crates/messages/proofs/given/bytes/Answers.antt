@@ -1,6 +1,0 @@
--- The length of a repeat.
-use Rattle.laws.proofs.Basics.{ℕ, sym, length-replicate}
-use Rattle.messages.proofs.given.bytes.Goals as goal
-
-pub returns : goal.returns
-returns c = sym (length-replicate {0} {A = ℕ} 1048577 0)

@@ -1,9 +1,0 @@
--- What is left of the arguments falls at each turn.
-use Rattle.laws.proofs.Basics.{◌-◌}
-use Rattle.reading_test.proofs.main.Given as goal
-
-abbrev pub invariant-loop-i : goal.invariant-loop-i
-invariant-loop-i l = Unit {0}
-
-abbrev pub decreases-loop-i : goal.decreases-loop-i
-decreases-loop-i l = l.count - l.i
