@@ -1,8 +1,6 @@
 -- What the last two entries of an expression's words say: its place, and whether it is a call.
-use Rattle.text.specs.declared.faults.Fault.{Fault}
 use Rattle.laws.proofs.Basics.{ℕ, ◌+◌, ◌-◌, ◌<◌, ◌≤◌, ◌≡◌, refl, sym, ap, ◌∙◌, List, [], ◌∷◌, ◌++◌, append_assoc, Bool, true, false, length, get_or}
 use Rattle.laws.proofs.Basics.{take, length-append, length-take-le, get_or-take, get_or-append-add, eqb, arith}
-use Rattle.laws.proofs.Cases.{contradiction}
 use Rattle.language.specs.Kinds as K
 use Rattle.language.specs.Tree as T
 use Rattle.language.specs.Tree.{Expression, is_call, ends_in_call, place_of}
@@ -12,7 +10,7 @@ use Rattle.tree.specs.Encoding.{MONADIC, CALLED, DYADIC, suffixed_kind, closed, 
 use Rattle.tree.specs.Encoding.{encode_operations}
 use Rattle.tree.proofs.Helpers.{free-is, room-is}
 use Rattle.tree.specs.declared.scratch.State.{State}
-use Rattle.tree.specs.declared.scratch.State.TheVariants.{Read, Refused}
+use Rattle.tree.specs.declared.scratch.State.TheVariants.{Read}
 
 -- an expression's words end in its record, which has its place and says by its kind whether it is a call
 record Recorded (e : Expression) : Type 0 where
@@ -93,9 +91,3 @@ module _ {s : List ℕ} {n : ℕ} {r : State} {at free : ℕ} (h : Ready 0 s n r
 
   pub place-entry : PlaceHere s r (get_or s (free - 2) 0)
   place-entry = record { here = λ at' free' before x e' t. place_is at' free' before x e' t }
-
-pub call-refused : {s : List ℕ} {r : State} {k : Fault} {p : ℕ} {call : Bool} → r ≡ Refused k p → CallHere s r call
-call-refused e = record { here = λ at free before x e' t. contradiction cc }
-
-pub place-refused : {s : List ℕ} {r : State} {k : Fault} {p place : ℕ} → r ≡ Refused k p → PlaceHere s r place
-place-refused e = record { here = λ at free before x e' t. contradiction cc }

@@ -1,8 +1,7 @@
 -- The source that scratch holds: its symbols lie there. What the reading of it makes of scratch, and when scratch is fit for it.
-use Rattle.laws.proofs.Basics.{ℕ, zero, suc, ◌+◌, ◌-◌, ◌*◌, ◌/◌, ◌^◌, ◌<◌, ◌≤◌, ◌≡◌, refl, sym, ap, subst, ◌∙◌, List, ◌++◌, Bool, true, false, cond}
+use Rattle.laws.proofs.Basics.{ℕ, zero, suc, ◌+◌, ◌-◌, ◌*◌, ◌^◌, ◌<◌, ◌≤◌, ◌≡◌, refl, sym, ap, subst, ◌∙◌, List, ◌++◌, Bool, true, false, cond}
 use Rattle.laws.proofs.Basics.{length, get_or, take, drop, replicate, List·getD-eq-default, length-take-le, get_or-drop, ltb, arith, ltb-true}
 use Rattle.laws.proofs.Basics.{ltb-false}
-use Rattle.laws.proofs.Basics.{lt-ltb, le-ltb}
 use Rattle.laws.proofs.Cases.{by_cases, contradiction}
 use Rattle.text.specs.declared.faults.Fault.{Fault}
 use Rattle.text.specs.Faults.{number_of}
@@ -68,27 +67,6 @@ module _ (s s' : List ℕ) (n size at : ℕ) (e : take (n * 3) s' ≡ take (n * 
 
 -- whether scratch is fit
 module _ (room count : ℕ) where
-  pub too-short-long : 2 ^ 32 - 1 < room → true ≡ too_short room count
-  unfolding too_short
-  too-short-long h =
-      sym (ap (λ (b : Bool). cond (ltb room (count * 8 + 64)) true b) (lt-ltb (2 ^ 32 - 1) room h) ∙ anyhow (ltb room (count * 8 + 64)))
-    where
-      anyhow : (b : Bool) → cond b true true ≡ true
-      anyhow true = refl
-      anyhow false = refl
-
-  pub too-short-few : room < count * 8 + 64 → true ≡ too_short room count
-  unfolding too_short
-  too-short-few h = sym (ap (λ (b : Bool). cond b true (ltb (2 ^ 32 - 1) room)) (lt-ltb room (count * 8 + 64) h))
-
-  too-short-not : room ≤ 2 ^ 32 - 1 → count * 8 + 64 ≤ room → false ≡ too_short room count
-  unfolding too_short
-  too-short-not h q = sym (ap (λ (b : Bool). cond b true (ltb (2 ^ 32 - 1) room)) (le-ltb room (count * 8 + 64) q) ∙ le-ltb (2 ^ 32 - 1) room h)
-
-  pub too-short-rest : room ≤ 2 ^ 32 - 1 → 64 ≤ room → ltb ((room - 64) / 8) count ≡ too_short room count
-  too-short-rest h q = by_cases (ltb ((room - 64) / 8) count) (λ e. e ∙ too-short-few (omega (arith, ltb-true ((room - 64) / 8) count e)))
-      (λ e. e ∙ too-short-not h (omega (arith, ltb-false ((room - 64) / 8) count e)))
-
   fit_by : (b c : Bool) → ltb room (count * 8 + 64) ≡ b → ltb (2 ^ 32 - 1) room ≡ c → cond b true c ≡ false → (count * 8 + 64 ≤ room) × (room < 2 ^ 32)
   fit_by true c e f g = contradiction cc
   fit_by false true e f g = contradiction cc
@@ -173,9 +151,3 @@ module _ {s s' s'' : List ℕ} {n size : ℕ} (fit : too_short (length s) n ≡ 
         answered fit (no (number_of fault) at) (subst (λ (x : State). FollowsBy (program (source_in s n size)) (Encodes encode_program) s s' (Read 0 (n * 3)) x) e
         d.by) (ap (refused (number_of fault)) (p ∙ place_kept s s' n size at k))
         (cleared-is s s' s'' (take (n * 3) s) (n * 3) same (omega (arith, fit_is (length s) n fit)) k c) tt
-
--- the tree's end is an entry of scratch
-pub end-inside :
-    {s s' : List ℕ} {n next free : ℕ} {r : State} → too_short (length s) n ≡ false → LeavesRoom 0 s s' n (Read 0 (n * 3)) r → r ≡ Read next free
-    → free ≤ length s
-end-inside {s} {n = n} fit f e = omega (arith, within f e, fit_is (length s) n fit)

@@ -54,10 +54,6 @@ module _ {r : State} {at free : ℕ} (e : r ≡ Read at free) where
   unfolding next_of low_of live reach
   facts-read n = (ap next_of e, ap (low_of n) e, ap live e, ap (reach n) e)
 
-pub free-of-refused : {r : State} {k : Fault} {p : ℕ} → r ≡ Refused k p → (size : ℕ) → free_of size r ≡ size
-unfolding free_of
-free-of-refused e size = ap (free_of size) e
-
 read-facts :
     (n at free : ℕ)
     → (next_of (Read at free) ≡ at) × (low_of n (Read at free) ≡ free) × (live (Read at free) ≡ 1) × (reach n (Read at free) ≡ free + 5 * (n - at))

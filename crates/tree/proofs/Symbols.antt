@@ -6,7 +6,7 @@ use Rattle.laws.proofs.Basics.{List·getD-eq-default, get_or-take, eqb, ltb, ari
 use Rattle.laws.proofs.Cases.{by_cases, contradiction}
 use Rattle.language.specs.Symbols.{Symbol}
 use Rattle.language.specs.Reader.{Source, Out, ok, no, on_out, kind_at, place_at, unexpected, the}
-use Rattle.tree.specs.Reads.{HoldsSymbols, Here, KindHere, Follows, Encodes, Reads, Passes, next_of}
+use Rattle.tree.specs.Reads.{HoldsSymbols, Here, Follows, Encodes, Reads, Passes, next_of}
 use Rattle.tree.proofs.Steps.{bind, nothing}
 use Rattle.tree.specs.declared.scratch.State.{State}
 use Rattle.tree.specs.declared.scratch.State.TheVariants.{Read, Refused}
@@ -23,23 +23,6 @@ module _ {src : Source} {n : ℕ} {s : List ℕ} (l : HoldsSymbols src n s) wher
   -- a symbol of a kind other than 0 stands among the symbols
   pub inside : (at : ℕ) → 0 < kind_at src at → at < n
   inside at h = by_cases (ltb at n) (ltb-true at n) (λ e. let z = past l at (ltb-false at n e) in absurd (omega arith))
-
-  pub kind-past : {r : State} {at free : ℕ} → r ≡ Read at free → n ≤ at → KindHere src r 0
-  kind-past {r} {at} e h = record { here = λ at' free' e'. sym (past l at' (omega (arith, same_at e e'))) }
-
-  pub kind-refused : {r : State} {k : Fault} {p x : ℕ} → r ≡ Refused k p → KindHere src r x
-  kind-refused e = record { here = λ at free e'. contradiction cc }
-
--- an entry of the symbol here, whichever it is: its kind, its value or its place
-pub entry_here :
-    (what : ℕ → ℕ) {r : State} {at free x : ℕ} → r ≡ Read at free → x ≡ what at → (at' free' : ℕ) → r ≡ Read at' free' → x ≡ what at'
-entry_here what e q at' free' e' = q ∙ ap what (same_at e e')
-
-pub here-past : {what : ℕ → ℕ} {n : ℕ} {r : State} {at free x : ℕ} → r ≡ Read at free → n ≤ at → Here what n r x
-here-past e h = record { here = λ at' free' e' i. absurd (omega (arith, same_at e e')) }
-
-pub here-refused : {what : ℕ → ℕ} {n : ℕ} {r : State} {k : Fault} {p x : ℕ} → r ≡ Refused k p → Here what n r x
-here-refused e = record { here = λ at free e' i. contradiction cc }
 
 -- the symbols stay where they are
 kept_at : (n : ℕ) (s s' : List ℕ) → take (n * 3) s' ≡ take (n * 3) s → (i : ℕ) → i < n * 3 → get_or s' i 0 ≡ get_or s i 0
