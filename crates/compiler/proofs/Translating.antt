@@ -20,8 +20,8 @@ use Rattle.symbols.specs.declared.Unread.{Unread}
 use Rattle.symbols.specs.declared.Unread.TheVariants as U
 use Rattle.tree.specs.Read as R
 use Rattle.tree.specs.Read.{ReadsTree, tree_read, tree_left, left_by, padded, decoded, source_in, too_short, Within}
-use Rattle.tree.specs.declared.TreeRead.{TreeRead}
-use Rattle.tree.specs.declared.TreeRead.TheVariants as Ra
+use Rattle.tree.specs.declared.Unparsed.{Unparsed}
+use Rattle.tree.specs.declared.Unparsed.TheVariants as Ra
 use Rattle.tree.proofs.Stages.{few-good, decoded-entries, entries-size}
 use Rattle.code.specs.Generate.{text_of}
 use Rattle.compiler.specs.Compiles.{decided, answer_of, Begins, Translates, Lent, Serves, ReadySymbols, ReadyTree, Clean}
@@ -175,8 +175,8 @@ module _ {source s : List ℕ} {count : ℕ} (y : ReadySymbols source s count) w
   symbols-first : take (count * 3) (take most s) ≡ ss
   symbols-first = ap (take (count * 3)) lent-parts.0 ∙ take_at ss (replicate (most - length ss) 0) (count * 3) size
 
-  module _ {front : List ℕ} {a : TreeRead} (r : ReadsTree (take most s) count (length source) a front) where
-    tree-told : (a ≡ R.answer_of src count (tree_of src)) × (front ≡ left_by count (take most s) (tree_of src))
+  module _ {front : List ℕ} {a : Result ℕ Unparsed} (r : ReadsTree (take most s) count (length source) a front) where
+    tree-told : (R.answer_of a ≡ R.answer_by src count (tree_of src)) × (front ≡ left_by count (take most s) (tree_of src))
     unfolding tree_read tree_left
     tree-told = (r.answers ∙ rw (fits, source_is) refl, r.leaves ∙ rw (fits, source_is) refl)
 
@@ -189,13 +189,13 @@ module _ {source s : List ℕ} {count : ℕ} (y : ReadySymbols source s count) w
         let g : s' ≡ padded (length s) w = rw (lent-parts.1, f, padded-on w most h (length s) tree-room) in
         (g, ap length g ∙ padded-long w (length s) (omega (arith, tree-room)))
 
-    pub ready-tree : {end : ℕ} → a ≡ Ra.Read end → ReadyTree source s' count end
-    ready-tree {end} e = go (tree_of src) refl (sym e ∙ tree-told.0) tree-told.1
+    pub ready-tree : {end : ℕ} → a ≡ Ok end → ReadyTree source s' count end
+    ready-tree {end} e = go (tree_of src) refl (sym (ap R.answer_of e) ∙ tree-told.0) tree-told.1
       where
-        go : (o : Out Program) → tree_of src ≡ o → Ra.Read end ≡ R.answer_of src count o → front ≡ left_by count (take most s) o
+        go : (o : Out Program) → tree_of src ≡ o → R.read end ≡ R.answer_by src count o → front ≡ left_by count (take most s) o
             → ReadyTree source s' count end
         go (ok p next) q w z =
-            let k : end ≡ count * 3 + length (encode_program p) = cc in let within : end ≤ count * 8 = subst (Within (count * 8)) e r.room in
+            let k : end ≡ count * 3 + length (encode_program p) = cc in let within : end ≤ count * 8 = subst (λ (x : Result ℕ Unparsed). Within (count * 8) (R.answer_of x)) e r.room in
             let all : List ℕ = ss ++ encode_program p in let few : length all ≤ most = omega (arith, length-append ss (encode_program p), size) in
             let u = whole all few (rw (z, symbols-first)) in let stand = u.0 in let same = u.1 in
             record {
@@ -213,24 +213,25 @@ module _ {source s : List ℕ} {count : ℕ} (y : ReadySymbols source s count) w
         go (no number at) q w z = contradiction cc
 
     -- the symbols are cleared
-    pub tree-answer : {number place : ℕ} {t t' z : List ℕ} {w : Refusal} → a ≡ Ra.Refused number place → w ≡ refusal source number place
+    pub tree-answer : {fault : N.Fault} {place : ℕ} {t t' z : List ℕ} {w : Result ℕ Refusal} → a ≡ Err (Ra.Refused fault place)
+        → w ≡ Err (refusal source (number_of fault) place)
         → z ≡ take 0 (take (count * 3) s') ++ replicate (length (take (count * 3) s') - 0) 0
-        → Translates source s (z ++ drop (count * 3) s') t t' (Err w)
-    tree-answer {number} {place} {t} {t'} {z} {w} e q c = go (tree_of src) refl (sym e ∙ tree-told.0) tree-told.1
+        → Translates source s (z ++ drop (count * 3) s') t t' w
+    tree-answer {fault} {place} {t} {t'} {z} {w} e q c = go (tree_of src) refl (sym (ap R.answer_of e) ∙ tree-told.0) tree-told.1
       where
-        go : (o : Out Program) → tree_of src ≡ o → Ra.Refused number place ≡ R.answer_of src count o → front ≡ left_by count (take most s) o
-            → Translates source s (z ++ drop (count * 3) s') t t' (Err w)
+        go : (o : Out Program) → tree_of src ≡ o → R.refused (number_of fault) place ≡ R.answer_by src count o → front ≡ left_by count (take most s) o
+            → Translates source s (z ++ drop (count * 3) s') t t' w
         go (ok p next) k v l = contradiction cc
         go (no m at) k v l =
-            let i : m ≡ number = cc in let j : place_at src at ≡ place = cc in let few : length ss ≤ most = omega (arith, size) in let u = whole ss
+            let i : m ≡ number_of fault = cc in let j : place_at src at ≡ place = cc in let few : length ss ≤ most = omega (arith, size) in let u = whole ss
             few (l ∙ ap (padded (length (take most s))) symbols-first) in let stand = u.0 in let same = u.1 in let clean : Clean (count * 3) s'
             = padded-clean ss (length s) stand (omega (arith, size)) in
-            refusing q (tree-refused y.lent (length t) y.symbols m at y.reads k ∙ rw (i, j) refl)
-            (rw (clean_all clean (symbols-room same) c, same))
+            subst (Translates source s (z ++ drop (count * 3) s') t t') (sym q) (refusing refl (tree-refused y.lent (length t) y.symbols m at y.reads k ∙ rw (i, j) refl)
+            (rw (clean_all clean (symbols-room same) c, same)))
 
-    pub never-unfit : a ≡ Ra.TooShort → ⊥
-    never-unfit e = elim (tree_of src) as (λ o. Ra.TooShort ≡ R.answer_of src count o → ⊥)
-        [ ok p next ↦ λ w. contradiction cc | no m at ↦ λ w. contradiction cc ] (sym e ∙ tree-told.0)
+    pub never-unfit : a ≡ Err Ra.TooShort → ⊥
+    never-unfit e = elim (tree_of src) as (λ o. R.short ≡ R.answer_by src count o → ⊥)
+        [ ok p next ↦ λ w. contradiction cc | no m at ↦ λ w. contradiction cc ] (sym (ap R.answer_of e) ∙ tree-told.0)
 
 -- ---- the scratch that is lent on
 

@@ -26,7 +26,7 @@ use crate::steps::State;
 use crate::strings::{closing, opening, starts, string_count, strings};
 use symbols::{Unread, clear_from, read_symbols, scratch_too_short, too_long};
 use text::{Fault, Refusal, refuse};
-use tree::{TreeRead, read_tree};
+use tree::{Unparsed, read_tree};
 
 // A key, place * 32 + number, above all refusals'.
 const NONE: usize = 137438953472;
@@ -173,12 +173,12 @@ fn parsed(source: &[u8], s: &mut [u32], count: usize, text: &mut [u8]) -> Result
     ensures { Translates source.now s.old s.new text.old text.new result }
 {
     match read_tree(&mut s[..count * 8 + 64], count, source.len()) {
-        TreeRead::Read(end) => walked(source, s, count, end, text),
-        TreeRead::Refused { number, place } => {
+        Ok(end) => walked(source, s, count, end, text),
+        Err(Unparsed::Refused { fault, place }) => {
             clear_from(&mut s[..count * 3], 0);
-            Err(refuse(source, number, place))
+            refused(source, fault, place)
         }
-        TreeRead::TooShort => refused(source, Fault::RoomTooShort, 0),
+        Err(Unparsed::TooShort) => refused(source, Fault::RoomTooShort, 0),
     }
 }
 

@@ -9,7 +9,7 @@ ghost use Rattle.std.specs.Prelude.{◌<◌};
 use messages::{EprintBytes, NAME_ROOM};
 use std::rt::{Env, Files};
 use symbols::Unread;
-use tree::TreeRead;
+use tree::Unparsed;
 
 // So many bytes of a source are read.
 const SOURCE_ROOM: usize = 65536;
@@ -69,11 +69,13 @@ fn show(rt: &impl Print, source: &[u8]) {
         Ok(count) => {
             print_symbols(rt, &scratch, count);
             match tree::read_tree(&mut scratch, count, source.len()) {
-                TreeRead::TooShort => {
+                Err(Unparsed::TooShort) => {
                     let _ = println!(rt; "scratch too short");
                 }
-                TreeRead::Refused { number, place } => say_refused(rt, source, number, place),
-                TreeRead::Read(end) => print_tree(rt, &scratch, count, end),
+                Err(Unparsed::Refused { fault, place }) => {
+                    say_refused(rt, source, fault.number(), place)
+                }
+                Ok(end) => print_tree(rt, &scratch, count, end),
             }
         }
     }

@@ -9,8 +9,7 @@ use Rattle.text.specs.Line.{line_of}
 use Rattle.symbols.specs.Read as S
 use Rattle.symbols.specs.Read.{symbols_read}
 use Rattle.tree.specs.Read.{numbers_of, tree_read, tree_left}
-use Rattle.tree.specs.declared.TreeRead.{TreeRead}
-use Rattle.tree.specs.declared.TreeRead.TheVariants as T
+use Rattle.tree.specs.Read as T
 use Rattle.assembler.specs.declared.Label.{Label}
 use Rattle.language.specs.Program.{Refused, accepted, refused}
 use Rattle.code.specs.Generate.{text_of}
@@ -46,12 +45,12 @@ pub record SymbolsExported (text scratch scratch' answer : List ℕ) : Type 0 wh
   pub answers : answer ≡ S.numbers text (symbols_read text scratch).answer
 
 -- a tree's numbers, and the refusal's line, or 0
-abbrev pub tree_line : (text : List ℕ) → TreeRead → ℕ
-tree_line text T.TooShort = 1
-tree_line text (T.Read end) = 0
-tree_line text (T.Refused number place) = line_of text place
+abbrev pub tree_line : (text : List ℕ) → T.Answer → ℕ
+tree_line text T.short = 1
+tree_line text (T.read end) = 0
+tree_line text (T.refused number place) = line_of text place
 
-abbrev pub tree_numbers : (text : List ℕ) → TreeRead → List ℕ
+abbrev pub tree_numbers : (text : List ℕ) → T.Answer → List ℕ
 tree_numbers text answer = (numbers_of answer).number ∷ (numbers_of answer).value ∷ tree_line text answer ∷ []
 
 -- so many symbols stand in scratch, of that text

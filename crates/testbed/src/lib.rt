@@ -12,7 +12,7 @@ use assembler::Label;
 use machine::{Ran, Registers};
 use symbols::Unread;
 use text::{Fault, Refusal};
-use tree::TreeRead;
+use tree::Unparsed;
 
 // The refusals at a source's first byte: it is too long, or the room for its reading too short.
 const TOO_LONG: [u64; 3] = [Fault::SourceTooLong as u64, 0, 1];
@@ -153,14 +153,14 @@ fn answer_tree(text: &[u8], scratch: &mut [u32], count: usize, answer: &mut [u64
 {
     let read = tree::read_tree(scratch, count, text.len());
     match read {
-        TreeRead::TooShort => {
+        Err(Unparsed::TooShort) => {
             *answer = TOO_SHORT;
         }
-        TreeRead::Read(end) => {
+        Ok(end) => {
             *answer = [0, end as u64, 0];
         }
-        TreeRead::Refused { number, place } => {
-            *answer = refused(text::refuse(text, number, place));
+        Err(Unparsed::Refused { fault, place }) => {
+            *answer = refused(text::refuse(text, fault.number(), place));
         }
     }
 }

@@ -1,139 +1,141 @@
-// The kinds of symbols (language's `Kinds`), and the kinds of nodes that are no kind of symbol (`Encoding`).
+// The kinds by number, as they stand in scratch: of symbols (`symbols::Kind`), and of nodes that are no kind of symbol (`Encoding`).
+use symbols::Kind;
 
-pub(crate) const NOTHING: u32 = 0;
+// Where no symbol stands.
+pub const NOTHING: u32 = 0;
 
-pub(crate) const GLOBAL: u32 = 1;
+pub const GLOBAL: u32 = Kind::Global as u32;
 
-pub(crate) const MANIFEST: u32 = 2;
+pub const MANIFEST: u32 = Kind::Manifest as u32;
 
-pub(crate) const LET: u32 = 3;
+pub const LET: u32 = Kind::Let as u32;
 
-pub(crate) const AND: u32 = 4;
+pub const AND: u32 = Kind::And as u32;
 
-pub(crate) const BE: u32 = 5;
+pub const BE: u32 = Kind::Be as u32;
 
-pub(crate) const VEC: u32 = 6;
+pub const VEC: u32 = Kind::Vec as u32;
 
-pub(crate) const VALOF: u32 = 7;
+pub const VALOF: u32 = Kind::Valof as u32;
 
-pub(crate) const RESULTIS: u32 = 8;
+pub const RESULTIS: u32 = Kind::Resultis as u32;
 
-pub(crate) const TRUE: u32 = 9;
+pub const TRUE: u32 = Kind::True as u32;
 
-pub(crate) const FALSE: u32 = 10;
+pub const FALSE: u32 = Kind::False as u32;
 
-pub(crate) const NOT: u32 = 11;
+pub const NOT: u32 = Kind::Not as u32;
 
-pub(crate) const REM: u32 = 12;
+pub const REM: u32 = Kind::Rem as u32;
 
-pub(crate) const TEST: u32 = 13;
+pub const TEST: u32 = Kind::Test as u32;
 
-pub(crate) const DO: u32 = 14;
+pub const DO: u32 = Kind::Do as u32;
 
-pub(crate) const OR: u32 = 15;
+pub const OR: u32 = Kind::Or as u32;
 
-pub(crate) const IF: u32 = 16;
+pub const IF: u32 = Kind::If as u32;
 
-pub(crate) const UNLESS: u32 = 17;
+pub const UNLESS: u32 = Kind::Unless as u32;
 
-pub(crate) const WHILE: u32 = 18;
+pub const WHILE: u32 = Kind::While as u32;
 
-pub(crate) const UNTIL: u32 = 19;
+pub const UNTIL: u32 = Kind::Until as u32;
 
-pub(crate) const REPEAT: u32 = 20;
+pub const REPEAT: u32 = Kind::Repeat as u32;
 
-pub(crate) const REPEATWHILE: u32 = 21;
+pub const REPEATWHILE: u32 = Kind::Repeatwhile as u32;
 
-pub(crate) const REPEATUNTIL: u32 = 22;
+pub const REPEATUNTIL: u32 = Kind::Repeatuntil as u32;
 
-pub(crate) const FOR: u32 = 23;
+pub const FOR: u32 = Kind::For as u32;
 
-pub(crate) const TO: u32 = 24;
+pub const TO: u32 = Kind::To as u32;
 
-pub(crate) const BY: u32 = 25;
+pub const BY: u32 = Kind::By as u32;
 
-pub(crate) const SWITCHON: u32 = 26;
+pub const SWITCHON: u32 = Kind::Switchon as u32;
 
-pub(crate) const INTO: u32 = 27;
+pub const INTO: u32 = Kind::Into as u32;
 
-pub(crate) const CASE: u32 = 28;
+pub const CASE: u32 = Kind::Case as u32;
 
-pub(crate) const DEFAULT: u32 = 29;
+pub const DEFAULT: u32 = Kind::Default as u32;
 
-pub(crate) const ENDCASE: u32 = 30;
+pub const ENDCASE: u32 = Kind::Endcase as u32;
 
-pub(crate) const BREAK: u32 = 31;
+pub const BREAK: u32 = Kind::Break as u32;
 
-pub(crate) const LOOP: u32 = 32;
+pub const LOOP: u32 = Kind::Loop as u32;
 
-pub(crate) const RETURN: u32 = 33;
+pub const RETURN: u32 = Kind::Return as u32;
 
-pub(crate) const FINISH: u32 = 34;
+pub const FINISH: u32 = Kind::Finish as u32;
 
-pub(crate) const PLUS: u32 = 35;
+pub const PLUS: u32 = Kind::Plus as u32;
 
-pub(crate) const MINUS: u32 = 36;
+pub const MINUS: u32 = Kind::Minus as u32;
 
-pub(crate) const STAR: u32 = 37;
+pub const STAR: u32 = Kind::Star as u32;
 
-pub(crate) const SLASH: u32 = 38;
+pub const SLASH: u32 = Kind::Slash as u32;
 
-pub(crate) const EQUAL: u32 = 39;
+pub const EQUAL: u32 = Kind::Equal as u32;
 
-pub(crate) const UNEQUAL: u32 = 40;
+pub const UNEQUAL: u32 = Kind::Unequal as u32;
 
-pub(crate) const LESS: u32 = 41;
+pub const LESS: u32 = Kind::Less as u32;
 
-pub(crate) const ATMOST: u32 = 42;
+pub const ATMOST: u32 = Kind::AtMost as u32;
 
-pub(crate) const MORE: u32 = 43;
+pub const MORE: u32 = Kind::More as u32;
 
-pub(crate) const ATLEAST: u32 = 44;
+pub const ATLEAST: u32 = Kind::AtLeast as u32;
 
-pub(crate) const LEFT: u32 = 45;
+pub const LEFT: u32 = Kind::Left as u32;
 
-pub(crate) const RIGHT: u32 = 46;
+pub const RIGHT: u32 = Kind::Right as u32;
 
-pub(crate) const AMPERSAND: u32 = 47;
+pub const AMPERSAND: u32 = Kind::Ampersand as u32;
 
-pub(crate) const BAR: u32 = 48;
+pub const BAR: u32 = Kind::Bar as u32;
 
-pub(crate) const PLING: u32 = 49;
+pub const PLING: u32 = Kind::Pling as u32;
 
-pub(crate) const AT: u32 = 50;
+pub const AT: u32 = Kind::At as u32;
 
-pub(crate) const OPEN: u32 = 51;
+pub const OPEN: u32 = Kind::Open as u32;
 
-pub(crate) const CLOSE: u32 = 52;
+pub const CLOSE: u32 = Kind::Close as u32;
 
-pub(crate) const COMMA: u32 = 53;
+pub const COMMA: u32 = Kind::Comma as u32;
 
-pub(crate) const SEMICOLON: u32 = 54;
+pub const SEMICOLON: u32 = Kind::Semicolon as u32;
 
-pub(crate) const COLON: u32 = 55;
+pub const COLON: u32 = Kind::Colon as u32;
 
-pub(crate) const ASSIGN: u32 = 56;
+pub const ASSIGN: u32 = Kind::Assign as u32;
 
-pub(crate) const BEGIN: u32 = 57;
+pub const BEGIN: u32 = Kind::Begin as u32;
 
-pub(crate) const END: u32 = 58;
+pub const END: u32 = Kind::End as u32;
 
-pub(crate) const NAME: u32 = 59;
+pub const NAME: u32 = Kind::Name as u32;
 
-pub(crate) const NUMBER: u32 = 60;
+pub const NUMBER: u32 = Kind::Number as u32;
 
-pub(crate) const STRING: u32 = 61;
+pub const STRING: u32 = Kind::String as u32;
 
 // Kinds of nodes that are no kind of symbol.
-pub(crate) const MONADIC: u32 = 128;
+pub const MONADIC: u32 = 128;
 
-pub(crate) const SUFFIXED: u32 = 129;
+pub const SUFFIXED: u32 = 129;
 
 // A record of suffixes of which the last is a call.
-pub(crate) const CALLED: u32 = 130;
+pub const CALLED: u32 = 130;
 
-pub(crate) const DYADIC: u32 = 131;
+pub const DYADIC: u32 = 131;
 
-pub(crate) const LABELLED: u32 = 132;
+pub const LABELLED: u32 = 132;
 
-pub(crate) const REPEATED: u32 = 133;
+pub const REPEATED: u32 = 133;

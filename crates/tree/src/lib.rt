@@ -6,7 +6,7 @@
 
 mod binding;
 mod declarations;
-mod kinds;
+pub mod kinds;
 mod parts;
 mod phrases;
 mod scratch;
