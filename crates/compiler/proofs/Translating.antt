@@ -213,21 +213,21 @@ module _ {source s : List ℕ} {count : ℕ} (y : ReadySymbols source s count) w
         go (no number at) q w z = contradiction cc
 
     -- the symbols are cleared
-    pub tree-answer : {fault : N.Fault} {place : ℕ} {t t' z : List ℕ} {w : Result ℕ Refusal} → a ≡ Err (Ra.Refused fault place)
-        → w ≡ Err (refusal source (number_of fault) place)
+    pub tree-answer : {fault : N.Fault} {place : ℕ} {t t' z : List ℕ} {w : Refusal} → a ≡ Err (Ra.Refused fault place)
+        → w ≡ refusal source (number_of fault) place
         → z ≡ take 0 (take (count * 3) s') ++ replicate (length (take (count * 3) s') - 0) 0
-        → Translates source s (z ++ drop (count * 3) s') t t' w
+        → Translates source s (z ++ drop (count * 3) s') t t' (Err w)
     tree-answer {fault} {place} {t} {t'} {z} {w} e q c = go (tree_of src) refl (sym (ap R.answer_of e) ∙ tree-told.0) tree-told.1
       where
         go : (o : Out Program) → tree_of src ≡ o → R.refused (number_of fault) place ≡ R.answer_by src count o → front ≡ left_by count (take most s) o
-            → Translates source s (z ++ drop (count * 3) s') t t' w
+            → Translates source s (z ++ drop (count * 3) s') t t' (Err w)
         go (ok p next) k v l = contradiction cc
         go (no m at) k v l =
             let i : m ≡ number_of fault = cc in let j : place_at src at ≡ place = cc in let few : length ss ≤ most = omega (arith, size) in let u = whole ss
             few (l ∙ ap (padded (length (take most s))) symbols-first) in let stand = u.0 in let same = u.1 in let clean : Clean (count * 3) s'
             = padded-clean ss (length s) stand (omega (arith, size)) in
-            subst (Translates source s (z ++ drop (count * 3) s') t t') (sym q) (refusing refl (tree-refused y.lent (length t) y.symbols m at y.reads k ∙ rw (i, j) refl)
-            (rw (clean_all clean (symbols-room same) c, same)))
+            refusing q (tree-refused y.lent (length t) y.symbols m at y.reads k ∙ rw (i, j) refl)
+            (rw (clean_all clean (symbols-room same) c, same))
 
     pub never-unfit : a ≡ Err Ra.TooShort → ⊥
     never-unfit e = elim (tree_of src) as (λ o. R.short ≡ R.answer_by src count o → ⊥)
