@@ -1,4 +1,5 @@
 // The kinds by number, as they stand in scratch: of symbols (`symbols::Kind`), and of nodes that are no kind of symbol (`Encoding`).
+// What is read is compared as a number, since scratch may hold any: one that is no kind is refused where it stands, and 0 is the end.
 use symbols::Kind;
 
 // Where no symbol stands.

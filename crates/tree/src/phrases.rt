@@ -2,6 +2,9 @@
 //
 // Each function takes the state of the reading so far and gives the next one; a refusal is passed on as it is, so that a construct
 // is a few lines, one for each part. `levels` is how many levels are left; every round of the cycle takes one.
+//
+// The loops differ in the reader that they repeat. One generic function for them, and for those of `parts` and `declarations`, would take
+// it as a closure, and a closure made in a cycle of calls gets no proof.
 ghost use Rattle.std.specs.Prelude.{◌+◌, ◌-◌, ◌<◌, ◌≤◌, ◌≡◌, true, false, List, ◌∷◌, length, eqb};
 ghost use Rattle.language.specs.Kinds as K;
 ghost use Rattle.language.specs.Tree as T;
