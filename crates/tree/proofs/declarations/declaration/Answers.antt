@@ -1,5 +1,5 @@
+use Rattle.std.proofs.Common.{rules}
 use Rattle.laws.proofs.Basics.{refl}
-use Rattle.tree.proofs.Classes.{unlike2}
 use Rattle.tree.proofs.Programs.{declaration-globals, declaration-manifests, declaration-functions}
 use Rattle.tree.proofs.Rooms.{leaves-less}
 use Rattle.tree.proofs.Steps.{pair}
@@ -13,4 +13,4 @@ returns-in-2 c = (leaves-less c.item_list-in-2.ensures.0 refl, λ src l h. decla
 
 pub returns-in_default : goal.returns-in_default
 returns-in_default c = pair (leaves-less c.functions.ensures.0 refl)
-    (λ src l h. (let u = unlike2 c.in_default.in_default-own.rest in declaration-functions src h u.0 u.1 (c.functions.ensures.1 src l)))
+    (λ src l h. declaration-functions src h (search rules) (search rules) (c.functions.ensures.1 src l))

@@ -1,3 +1,4 @@
+use Rattle.std.proofs.Common.{rules}
 use Rattle.tree.proofs.Leaves.{number_read, string-read, name-read, true-read, false-read, other-read}
 use Rattle.tree.proofs.parts.atom.Goals as goal
 
@@ -17,4 +18,4 @@ pub returns-in-59 : goal.returns-in-59
 returns-in-59 c = name-read c.value_here-value.ensures c.in-59.is c.leaf-in-59.ensures
 
 pub returns-in_default : goal.returns-in_default
-returns-in_default c = other-read c.in_default.in_default-own.rest c.refuse.ensures
+returns-in_default c = other-read (search rules) c.refuse.ensures

@@ -1,3 +1,4 @@
+use Rattle.std.proofs.Common.{rules}
 use Rattle.tree.proofs.Constants.{negative-shut, negative-number, negative-true, negative-false, negative-name}
 use Rattle.tree.proofs.parts.negative.Goals as goal
 
@@ -18,4 +19,4 @@ returns-in-10 c = negative-false _ c.place_here-place.ensures c.if-levels-eq0.fa
 
 pub returns-in_default : goal.returns-in_default
 returns-in_default c = negative-name _ c.place_here-place.ensures c.if-levels-eq0.false c.expect-minus.ensures c.kind_here-kind.ensures c.value_here-value.ensures
-    c.in_default.in_default-own.rest c.negated_name.ensures
+    (search rules) c.negated_name.ensures

@@ -1,3 +1,4 @@
+use Rattle.std.proofs.Common.{rules}
 use Rattle.tree.proofs.Leaves.{positive-number, positive-true, positive-false, positive-name}
 use Rattle.tree.proofs.parts.positive.Goals as goal
 
@@ -11,4 +12,4 @@ pub returns-in-10 : goal.returns-in-10
 returns-in-10 c = positive-false c.value_here-value.ensures c.in-10.is c.leaf-in-10.ensures
 
 pub returns-in_default : goal.returns-in_default
-returns-in_default c = positive-name c.value_here-value.ensures c.in_default.in_default-own.rest c.leaf-in_default.ensures
+returns-in_default c = positive-name c.value_here-value.ensures (search rules) c.leaf-in_default.ensures
