@@ -158,8 +158,15 @@ fn whole(s: &mut [u32], n: usize, levels: usize, r: State) -> State
         let place = place_of(s, n, primary);
         let first = tail(s, n, levels, kind, primary);
         let last = tails(s, n, levels, kind == OPEN, first);
-        let end = last.end;
-        return node(s, n, end, lo, size as u32, place, suffixed_kind(last.call));
+        return node(
+            s,
+            n,
+            last.end,
+            lo,
+            size as u32,
+            place,
+            suffixed_kind(last.call),
+        );
     }
     primary
 }
@@ -224,8 +231,7 @@ fn pass(s: &mut [u32], n: usize, levels: usize, r: State) -> State
     }
     let first = arg(s, n, levels, r);
     let last = also(s, n, levels, first);
-    let end = last.end;
-    expect(s, n, end, CLOSE)
+    expect(s, n, last.end, CLOSE)
 }
 
 // An argument, as an item.
@@ -691,9 +697,8 @@ fn set(s: &mut [u32], n: usize, levels: usize, lo: usize, r: State) -> State
 {
     let size = free_of(s, r).saturating_sub(lo);
     let left = also(s, n, levels, r);
-    let end = left.end;
-    let all = free_of(s, end).saturating_sub(lo);
-    let word = expect(s, n, end, ASSIGN);
+    let all = free_of(s, left.end).saturating_sub(lo);
+    let word = expect(s, n, left.end, ASSIGN);
     let first = arg(s, n, levels, word);
     let last = rest(s, n, levels, left.count, first);
     node(s, n, last, lo, size as u32, all as u32, ASSIGN)
