@@ -1,9 +1,9 @@
 -- What stands at a place, by the class of the byte there.
-use Rattle.laws.proofs.Basics.{ℕ, ◌+◌, ◌≡◌, List, [], ◌∷◌, length, take, drop, drop-drop}
+use Rattle.laws.proofs.Basics.{ℕ, ◌≡◌, List, [], ◌∷◌, length, take, drop}
 use Rattle.laws.proofs.Basics.{◌-◌, length-drop, take-length, ne_eqb}
 use Rattle.text.proofs.Bytes.{Unlike}
 use Rattle.language.specs.Bytes.{class_of}
-use Rattle.language.specs.Symbols.{Element, wrong, by_class}
+use Rattle.language.specs.Symbols.{wrong, by_class}
 
 module _ (bs : List ℕ) where
   -- ---- by the class
@@ -26,10 +26,9 @@ module _ (bs : List ℕ) where
       ne_eqb k 9 h.1,
     )
 
--- what is read from the next byte on
-pub past_first : (f : List ℕ → Element) (text : List ℕ) (at : ℕ) {r : Element} → r ≡ f (drop (at + 1) text) → r ≡ f (drop 1 (drop at text))
-past_first f text at e = rw (drop-drop 1 at text) e
-
 -- the bytes from a place on, as a slice has them
-pub rest-is : (text : List ℕ) (at : ℕ) → take (length text - at) (drop at text) ≡ drop at text
+abbrev pub rest : List ℕ → (at : ℕ) → List ℕ
+rest text at = take (length text - at) (drop at text)
+
+pub rest-is : (text : List ℕ) (at : ℕ) → rest text at ≡ drop at text
 rest-is text at = rw (← length-drop at text) (take-length (drop at text))

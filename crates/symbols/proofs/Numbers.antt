@@ -3,7 +3,7 @@ use Rattle.laws.proofs.Basics.{ℕ, suc, ◌+◌, ◌-◌, ◌*◌, ◌<◌, ◌
 use Rattle.laws.proofs.Basics.{⊎_elim, length, get_or, drop, ltb, leb, arith, ltb-true, ltb-false, leb-true, le-leb, lt-leb}
 use Rattle.laws.proofs.Cases.{by_cases, contradiction}
 use native.Mathlib.Nat.{mul-le-mul, le-mul_of_pos_right}
-use Rattle.symbols.proofs.Runs.{digits-run, Running, run-starts, run_ends, run-stops, run-goes-on}
+use Rattle.symbols.proofs.Runs.{digits-run, Running, run-within, run_ends, run-stops, run-goes-on}
 use Rattle.text.proofs.Bytes.{at_byte, past_end}
 use Rattle.language.specs.Symbols.{symbol, wrong, digit_of, digits, value_of, decimal, octal}
 use Rattle.symbols.specs.Parts.{capped}
@@ -71,28 +71,28 @@ pub product : (n base : ℕ) → n ≤ 65536 → base ≤ 10 → n * base ≤ 65
 product n base h k = mul-le-mul h k
 
 -- the digits from i on make of the number n so far what all of them make
-pub record Digits (base : ℕ) (text : List ℕ) (at n i : ℕ) : Type 0 where
-  pub run : Running (digits-run base) text at i
+pub record Digits (base : ℕ) (text : List ℕ) (n i : ℕ) : Type 0 where
+  pub run : Running (digits-run base) text i
   pub small : n ≤ 65536
-  pub value : capped (value_of base n (drop i text)) ≡ capped (value_of base 0 (drop at text))
+  pub value : capped (value_of base n (drop i text)) ≡ capped (value_of base 0 text)
 
-pub digits-start : (base : ℕ) (text : List ℕ) (at : ℕ) → Digits base text at 0 at
-digits-start base text at = record { run = run-starts (digits-run base) text at; small = omega arith; value = refl }
+pub digits-start : (base : ℕ) (text : List ℕ) → Digits base text 0 0
+digits-start base text = record { run = omega arith; small = omega arith; value = refl }
 
 -- how many there are, and what they make
-abbrev Read : (base : ℕ) (text : List ℕ) (at n i : ℕ) → Type 0
-Read base text at n i = (i - at ≡ digits base (drop at text)) × (n ≡ capped (value_of base 0 (drop at text)))
+abbrev Read : (base : ℕ) (text : List ℕ) (n i : ℕ) → Type 0
+Read base text n i = (i ≡ digits base text) × (n ≡ capped (value_of base 0 text))
 
-module _ {base : ℕ} {text : List ℕ} {at n i : ℕ} (s : Digits base text at n i) where
-  pub digits-end : length text ≤ i → Read base text at n i
+module _ {base : ℕ} {text : List ℕ} {n i : ℕ} (s : Digits base text n i) where
+  pub digits-end : length text ≤ i → Read base text n (length text)
   unfolding value_of
   digits-end h = (
-    run_ends (digits-run base) s.run h,
+    omega (arith, run_ends (digits-run base) s.run h, run-within (digits-run base) text),
     sym (ap capped (past_end (value_of base n) text i h) ∙ capped-own n s.small) ∙ s.value,
   )
 
   module _ (h : i < length text) {c : ℕ} (e : c ≡ get_or text i 0) where
-    pub digits-stop : digit_of base c ≡ false → Read base text at n i
+    pub digits-stop : digit_of base c ≡ false → Read base text n i
     unfolding value_of
     digits-stop k = (
       run-stops (digits-run base) s.run h (rw e at k),
@@ -103,7 +103,7 @@ module _ {base : ℕ} {text : List ℕ} {at n i : ℕ} (s : Digits base text at 
         stopped true j = contradiction cc
         stopped false j = refl
 
-    pub digits_more : {m : ℕ} → 1 ≤ base → digit_of base c ≡ true → m ≡ capped (n * base + (c - 48)) → Digits base text at m (i + 1)
+    pub digits_more : {m : ℕ} → 1 ≤ base → digit_of base c ≡ true → m ≡ capped (n * base + (c - 48)) → Digits base text m (i + 1)
     unfolding value_of
     digits_more b k q = record {
       run = run-goes-on (digits-run base) s.run h (rw e at k);

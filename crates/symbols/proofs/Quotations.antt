@@ -1,60 +1,56 @@
 -- Characters and strings of the source, from what is read between their quotes.
-use Rattle.laws.proofs.Basics.{ℕ, suc, ◌+◌, ◌<◌, ◌≡◌, ap, ◌∙◌, List, [], ◌∷◌, length, drop, length-drop, arith}
+use Rattle.laws.proofs.Basics.{ℕ, suc, ◌+◌, ◌≡◌, ap, ◌∙◌, List, [], ◌∷◌, length, arith}
 use Rattle.std.specs.Prelude.{Option, Some}
 use Rattle.std.specs.Option.{unwrap_or}
 use Rattle.text.specs.Quoted as Q
 use Rattle.text.specs.Quoted.{closed, unclosed, faulty, quoted}
 use Rattle.text.specs.Parts.{value_of}
-use Rattle.text.proofs.Quotes.{first-is, fault-within}
+use Rattle.text.proofs.Quotes.{first-is}
 use Rattle.text.proofs.Answers.{Counted}
 use Rattle.language.specs.Symbols.{symbol, wrong, character, string}
 
-module _ (text : List ℕ) (at : ℕ) where
-  -- a fault is at a byte of the text
-  pub fault-inside : (quote room : ℕ) {number offset : ℕ} → quoted quote room 0 (drop at text) ≡ faulty number offset → at + offset < length text
-  fault-inside quote room e = omega (arith, fault-within quote room 0 (drop at text) e, length-drop at text)
-
+module _ (bs : List ℕ) where
   -- ---- one character between single quotes
 
-  module _ {n w : ℕ} (h : Counted (quoted 39 1 0 (drop at text)) n w) where
-    pub no-character : n ≡ 0 → wrong 43 0 ≡ character (drop at text)
+  module _ {n w : ℕ} (h : Counted (quoted 39 1 0 bs) n w) where
+    pub no-character : n ≡ 0 → wrong 43 0 ≡ character bs
     unfolding character
     no-character z = by h.characters h.is h.count
       where
-        by : (cs : List ℕ) → quoted 39 1 0 (drop at text) ≡ closed cs w → n ≡ length cs → wrong 43 0 ≡ character (drop at text)
+        by : (cs : List ℕ) → quoted 39 1 0 bs ≡ closed cs w → n ≡ length cs → wrong 43 0 ≡ character bs
         by [] e k = rw e
         by (c ∷ cs) e k = absurd (omega arith)
 
-    pub a-character : {v : ℕ} {r : Option ℕ} → (n ≡ 0 → ⊥) → r ≡ value_of (Q.character 39 (drop at text)) → v ≡ unwrap_or r 0
-        → symbol 60 v (w + 1) ≡ character (drop at text)
+    pub a-character : {v : ℕ} {r : Option ℕ} → (n ≡ 0 → ⊥) → r ≡ value_of (Q.character 39 bs) → v ≡ unwrap_or r 0
+        → symbol 60 v (w + 1) ≡ character bs
     unfolding character
     a-character {v} {r} some f u = by h.characters h.is h.count
       where
-        by : (cs : List ℕ) → quoted 39 1 0 (drop at text) ≡ closed cs w → n ≡ length cs → symbol 60 v (w + 1) ≡ character (drop at text)
+        by : (cs : List ℕ) → quoted 39 1 0 bs ≡ closed cs w → n ≡ length cs → symbol 60 v (w + 1) ≡ character bs
         by [] e k = absurd (some k)
-        by (c ∷ cs) e k = let q : r ≡ Some c = f ∙ first-is 39 1 (drop at text) e in let z : v ≡ c = u ∙ ap (λ (o : Option ℕ). unwrap_or o 0) q in
+        by (c ∷ cs) e k = let q : r ≡ Some c = f ∙ first-is 39 1 bs e in let z : v ≡ c = u ∙ ap (λ (o : Option ℕ). unwrap_or o 0) q in
             let m : w + 1 ≡ suc w = omega arith in rw (e, z, m)
 
-  pub character-unclosed : quoted 39 1 0 (drop at text) ≡ unclosed → wrong 40 0 ≡ character (drop at text)
+  pub character-unclosed : quoted 39 1 0 bs ≡ unclosed → wrong 40 0 ≡ character bs
   unfolding character
   character-unclosed e = rw e
 
-  pub character-faulty : {number offset : ℕ} → quoted 39 1 0 (drop at text) ≡ faulty number offset
-      → wrong number (offset + 1) ≡ character (drop at text)
+  pub character-faulty : {number offset : ℕ} → quoted 39 1 0 bs ≡ faulty number offset
+      → wrong number (offset + 1) ≡ character bs
   unfolding character
   character-faulty {offset = offset} e = let m : offset + 1 ≡ suc offset = omega arith in rw (e, m)
 
   -- ---- a string
 
-  pub a-string : {n w : ℕ} → Counted (quoted 34 255 0 (drop at text)) n w → symbol 61 n (w + 1) ≡ string (drop at text)
+  pub a-string : {n w : ℕ} → Counted (quoted 34 255 0 bs) n w → symbol 61 n (w + 1) ≡ string bs
   unfolding string
   a-string {n} {w} h = let m : w + 1 ≡ suc w = omega arith in rw (h.is, h.count, m)
 
-  pub string-unclosed : quoted 34 255 0 (drop at text) ≡ unclosed → wrong 40 0 ≡ string (drop at text)
+  pub string-unclosed : quoted 34 255 0 bs ≡ unclosed → wrong 40 0 ≡ string bs
   unfolding string
   string-unclosed e = rw e
 
-  pub string-faulty : {number offset : ℕ} → quoted 34 255 0 (drop at text) ≡ faulty number offset
-      → wrong number (offset + 1) ≡ string (drop at text)
+  pub string-faulty : {number offset : ℕ} → quoted 34 255 0 bs ≡ faulty number offset
+      → wrong number (offset + 1) ≡ string bs
   unfolding string
   string-faulty {offset = offset} e = let m : offset + 1 ≡ suc offset = omega arith in rw (e, m)

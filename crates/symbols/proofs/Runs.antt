@@ -1,5 +1,5 @@
 -- Runs of bytes that pass a test: the letters of a word, the digits of a number, the bytes of a comment.
-use Rattle.laws.proofs.Basics.{ℕ, suc, ◌+◌, ◌-◌, ◌<◌, ◌≤◌, ◌≡◌, refl, sym, ap, ◌∙◌, List, [], ◌∷◌, Bool, true, false, not, cond, length, get_or, take}
+use Rattle.laws.proofs.Basics.{ℕ, suc, ◌+◌, ◌<◌, ◌≤◌, ◌≡◌, refl, sym, ap, ◌∙◌, List, [], ◌∷◌, Bool, true, false, not, cond, length, get_or, take}
 use Rattle.laws.proofs.Basics.{drop, eqb, ltb, arith, ne_eqb, ltb-false}
 use Rattle.std.specs.Prelude.{Some, None}
 use Rattle.std.specs.List.{position, position_or_len}
@@ -40,25 +40,20 @@ comment-run = record { none = refl; some = λ c r. by (eqb c 10) (to_line_end r)
     by false n = refl
 
 module _ {p : ℕ → Bool} {f : List ℕ → ℕ} (run : Run p f) where
-  -- ---- the loop over a run: from i on it goes on as from its beginning
-  pub record Running (text : List ℕ) (at i : ℕ) : Type 0 where
-    pub begun : at ≤ i
-    pub same : i + f (drop i text) ≡ at + f (drop at text)
+  -- ---- the loop over a run: all bytes before i pass the test
+  abbrev pub Running : (bytes : List ℕ) (i : ℕ) → Type 0
+  Running bytes i = i + f (drop i bytes) ≡ f bytes
 
-  pub run-starts : (text : List ℕ) (at : ℕ) → Running text at at
-  run-starts text at = record { begun = omega arith; same = refl }
+  module _ {bytes : List ℕ} {i : ℕ} (r : Running bytes i) where
+    pub run_ends : length bytes ≤ i → i ≡ f bytes
+    run_ends h = omega (arith, r, past_end f bytes i h ∙ run.none)
 
-  module _ {text : List ℕ} {at i : ℕ} (r : Running text at i) where
-    pub run_ends : length text ≤ i → i - at ≡ f (drop at text)
-    run_ends h = omega (arith, past_end f text i h ∙ run.none)
+    module _ (h : i < length bytes) where
+      pub run-stops : p (get_or bytes i 0) ≡ false → i ≡ f bytes
+      run-stops e = let z : f (drop i bytes) ≡ 0 = at_byte f bytes i h refl ∙ run.some _ _ ∙ rw e in omega (arith, r)
 
-    module _ (h : i < length text) where
-      pub run-stops : p (get_or text i 0) ≡ false → i - at ≡ f (drop at text)
-      run-stops e = let z : f (drop i text) ≡ 0 = at_byte f text i h refl ∙ run.some _ _ ∙ rw e in omega arith
-
-      pub run-goes-on : p (get_or text i 0) ≡ true → Running text at (i + 1)
-      run-goes-on e = let z : f (drop i text) ≡ suc (f (drop (i + 1) text)) = at_byte f text i h refl ∙ run.some _ _ ∙ rw e in
-          record { begun = omega arith; same = omega arith }
+      pub run-goes-on : p (get_or bytes i 0) ≡ true → Running bytes (i + 1)
+      run-goes-on e = let z : f (drop i bytes) ≡ suc (f (drop (i + 1) bytes)) = at_byte f bytes i h refl ∙ run.some _ _ ∙ rw e in omega (arith, r)
 
   -- ---- all of them
   pub run-within : (bytes : List ℕ) → f bytes ≤ length bytes

@@ -8,6 +8,7 @@ use lib.Seq.{take-add}
 use Rattle.text.specs.Line.{newlines, line_of}
 use Rattle.language.specs.Bytes.{class_of}
 use Rattle.language.specs.Symbols.{Element, symbol, gap, wrong, by_class, none, fault, Scan, ends, goes_on, on_element, scan_from}
+use Rattle.std.proofs.lemmas.List.{get_or-drop}
 use Rattle.std.specs.Prelude.{Some, None, Ok, Err}
 use Rattle.text.specs.Faults as F
 use Rattle.symbols.specs.Kinds.{number_of}
@@ -15,6 +16,7 @@ use Rattle.symbols.specs.Parts.{broken, symbol_of, scan_by, Next, Stands, IfOne,
 use Rattle.symbols.specs.declared.kinds.Kind.{Kind}
 use Rattle.symbols.specs.declared.Found.{Found}
 use Rattle.symbols.specs.declared.Faulty.{Faulty}
+use Rattle.symbols.proofs.Heads.{rest, rest-is}
 use Rattle.symbols.proofs.Lines.{Stood, Given, element-given}
 
 -- ---- lines
@@ -44,6 +46,10 @@ scan-over (suc k) place (c ∷ r) = rw (add-shift place k) (scan-over k (suc pla
 
 abbrev pub element_at : List ℕ → ℕ → Element
 element_at text i = by_class (class_of (get_or text i 0)) (drop i text)
+
+-- the same from the rest of a text, as a slice has it
+pub at-rest : (text : List ℕ) (i : ℕ) {e : Element} → e ≡ by_class (class_of (get_or (rest text i) 0 0)) (rest text i) → e ≡ element_at text i
+at-rest text i e = rw (rest-is text i, get_or-drop i text 0 0, add-zero i) at e
 
 abbrev pub scan_at : List ℕ → ℕ → Scan
 scan_at text i = scan_from 0 i (drop i text)

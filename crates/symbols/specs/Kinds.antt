@@ -1,8 +1,7 @@
 -- The kinds of symbols by name: the numbers of the language's definitions (`Kinds`).
-use Rattle.std.specs.Prelude.{ℕ, ◌≡◌, ◌≢◌, Option, Some, None, Result, MatchResult}
+use Rattle.std.specs.Prelude.{ℕ, Option, Some, None}
 use Rattle.symbols.specs.declared.kinds.Kind.{Kind}
 use Rattle.symbols.specs.declared.kinds.Kind.TheVariants as V
-use Rattle.symbols.specs.declared.kinds.UnknownKind.{UnknownKind}
 use Rattle.language.specs.Kinds as K
 
 abbrev pub number_of : Kind → ℕ
@@ -72,7 +71,3 @@ number_of V.String = K.STRING
 abbrev pub number_or : Option Kind → ℕ
 number_or (Some k) = number_of k
 number_or None = 0
-
--- a number's kind, or that number again, which no kind has
-abbrev pub Numbers : ℕ → Result Kind UnknownKind → Type 0
-Numbers number r = MatchResult r (λ k. number_of k ≡ number) (λ e. (e.0 ≡ number) × ((k : Kind) → number_of k ≢ number))

@@ -121,33 +121,28 @@ fn and_digit(base: usize, n: usize, c: usize) -> usize
     (n * base + (c - 48)).min(65536)
 }
 
-fn digits_at(text: &[u8], at: usize, base: usize) -> Digits
+fn digits_at(bytes: &[u8], base: usize) -> Digits
     requires { (1 ≤ base) × (base ≤ 10) }
-    ensures { (result.count ≡ digits base (drop at text.now)) × (result.value ≡ capped (value_of base 0 (drop at text.now))) }
+    ensures { (result.count ≡ digits base bytes.now) × (result.value ≡ capped (value_of base 0 bytes.now)) }
 {
-    let mut value: usize = 0;
-    let mut i = at;
-    while i < text.len() {
-        let c = usize::from(text[i]);
+    let mut value = 0;
+    for (count, byte) in bytes.iter().enumerate() {
+        let c = usize::from(*byte);
         if !is_digit(base, c) {
-            return Digits {
-                count: i - at,
-                value,
-            };
+            return Digits { count, value };
         }
         value = and_digit(base, value, c);
-        i += 1;
     }
     Digits {
-        count: i - at,
+        count: bytes.len(),
         value,
     }
 }
 
-fn decimal_at(text: &[u8], at: usize) -> Result<Element, Wrong>
-    ensures { element_of result ≡ decimal (drop at text.now) }
+fn decimal_at(bytes: &[u8]) -> Result<Element, Wrong>
+    ensures { element_of result ≡ decimal bytes.now }
 {
-    let number = digits_at(text, at, 10);
+    let number = digits_at(bytes, 10);
     if number.value > 32767 {
         return refused_here(Fault::Number);
     }
@@ -159,10 +154,10 @@ fn decimal_at(text: &[u8], at: usize) -> Result<Element, Wrong>
 }
 
 // What follows #.
-fn octal_at(text: &[u8], at: usize) -> Result<Element, Wrong>
-    ensures { element_of result ≡ octal (drop at text.now) }
+fn octal_at(bytes: &[u8]) -> Result<Element, Wrong>
+    ensures { element_of result ≡ octal bytes.now }
 {
-    let number = digits_at(text, at, 8);
+    let number = digits_at(bytes, 8);
     if number.count < 1 {
         return refused_here(Fault::Number);
     }
@@ -177,15 +172,15 @@ fn octal_at(text: &[u8], at: usize) -> Result<Element, Wrong>
 }
 
 // What follows a single quote.
-fn character_at(text: &[u8], at: usize) -> Result<Element, Wrong>
-    ensures { element_of result ≡ character (drop at text.now) }
+fn character_at(bytes: &[u8]) -> Result<Element, Wrong>
+    ensures { element_of result ≡ character bytes.now }
 {
-    match text::quoted_at(text, at, b'\'', 1) {
+    match text::quoted_at(bytes, 0, b'\'', 1) {
         Ok(constant) => {
             if constant.characters == 0 {
                 return refused_here(Fault::QuotedLength);
             }
-            let value = text::value_at(text, at, b'\'').unwrap_or(0);
+            let value = text::value_at(bytes, 0, b'\'').unwrap_or(0);
             Ok(Element::Symbol {
                 kind: Kind::Number,
                 value: usize::from(value),
@@ -201,10 +196,10 @@ fn character_at(text: &[u8], at: usize) -> Result<Element, Wrong>
 }
 
 // What follows a double quote.
-fn string_at(text: &[u8], at: usize) -> Result<Element, Wrong>
-    ensures { element_of result ≡ string (drop at text.now) }
+fn string_at(bytes: &[u8]) -> Result<Element, Wrong>
+    ensures { element_of result ≡ string bytes.now }
 {
-    match text::quoted_at(text, at, b'"', 255) {
+    match text::quoted_at(bytes, 0, b'"', 255) {
         Ok(constant) => Ok(Element::Symbol {
             kind: Kind::String,
             value: constant.characters,
@@ -236,19 +231,18 @@ fn sign_or_comment(bytes: &[u8]) -> Result<Element, Wrong>
     spellings::sign_at(bytes)
 }
 
-// By the class of the byte there.
-pub(crate) fn element_at(text: &[u8], at: usize) -> Result<Element, Wrong>
-    requires { at < length text.now }
-    ensures { element_of result ≡ by_class (class_of (get_or text.now at 0)) (drop at text.now) }
+// By the class of the first byte.
+pub(crate) fn element_at(bytes: &[u8]) -> Result<Element, Wrong>
+    requires { 0 < length bytes.now }
+    ensures { element_of result ≡ by_class (class_of (get_or bytes.now 0 0)) bytes.now }
 {
-    let class = class_of(text[at]);
-    match class {
-        LETTER => word_at(&text[at..]),
-        DIGIT => decimal_at(text, at),
-        HASH => octal_at(text, at + 1),
-        QUOTE => character_at(text, at + 1),
-        DOUBLE => string_at(text, at + 1),
-        SIGN => sign_or_comment(&text[at..]),
+    match class_of(bytes[0]) {
+        LETTER => word_at(bytes),
+        DIGIT => decimal_at(bytes),
+        HASH => octal_at(&bytes[1..]),
+        QUOTE => character_at(&bytes[1..]),
+        DOUBLE => string_at(&bytes[1..]),
+        SIGN => sign_or_comment(bytes),
         SEPARATOR => Ok(Element::Gap(1)),
         NEWLINE => Ok(Element::Gap(1)),
         _ => refused_here(Fault::NoSymbol),

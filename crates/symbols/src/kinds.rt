@@ -1,7 +1,7 @@
 // The kinds of symbols by name, with the numbers of the language's definitions (`Kinds`), by which they stand in scratch.
 ghost use Rattle.std.specs.Prelude.{◌≡◌, ◌<◌};
 ghost use Rattle.language.specs.Semicolons.{ends_line, begins_line};
-ghost use Rattle.symbols.specs.Kinds.{number_of, Numbers};
+ghost use Rattle.symbols.specs.Kinds.{number_of};
 
 #[derive(Clone, Copy, PartialEq, Eq)]
 pub enum Kind {
@@ -90,82 +90,5 @@ impl Kind {
         ensures { result ≡ begins_line (number_of self) }
     {
         BEGINS_LINE[self.number() as usize] == b'1'
-    }
-}
-
-// A number that no kind of symbol has.
-#[derive(Clone, Copy, PartialEq, Eq)]
-pub struct UnknownKind(pub u32);
-
-impl TryFrom<u32> for Kind {
-    type Error = UnknownKind;
-
-    ghost try_from_gives = { Numbers };
-
-    fn try_from(number: u32) -> Result<Self, UnknownKind> {
-        match number {
-            1 => Ok(Kind::Global),
-            2 => Ok(Kind::Manifest),
-            3 => Ok(Kind::Let),
-            4 => Ok(Kind::And),
-            5 => Ok(Kind::Be),
-            6 => Ok(Kind::Vec),
-            7 => Ok(Kind::Valof),
-            8 => Ok(Kind::Resultis),
-            9 => Ok(Kind::True),
-            10 => Ok(Kind::False),
-            11 => Ok(Kind::Not),
-            12 => Ok(Kind::Rem),
-            13 => Ok(Kind::Test),
-            14 => Ok(Kind::Do),
-            15 => Ok(Kind::Or),
-            16 => Ok(Kind::If),
-            17 => Ok(Kind::Unless),
-            18 => Ok(Kind::While),
-            19 => Ok(Kind::Until),
-            20 => Ok(Kind::Repeat),
-            21 => Ok(Kind::Repeatwhile),
-            22 => Ok(Kind::Repeatuntil),
-            23 => Ok(Kind::For),
-            24 => Ok(Kind::To),
-            25 => Ok(Kind::By),
-            26 => Ok(Kind::Switchon),
-            27 => Ok(Kind::Into),
-            28 => Ok(Kind::Case),
-            29 => Ok(Kind::Default),
-            30 => Ok(Kind::Endcase),
-            31 => Ok(Kind::Break),
-            32 => Ok(Kind::Loop),
-            33 => Ok(Kind::Return),
-            34 => Ok(Kind::Finish),
-            35 => Ok(Kind::Plus),
-            36 => Ok(Kind::Minus),
-            37 => Ok(Kind::Star),
-            38 => Ok(Kind::Slash),
-            39 => Ok(Kind::Equal),
-            40 => Ok(Kind::Unequal),
-            41 => Ok(Kind::Less),
-            42 => Ok(Kind::AtMost),
-            43 => Ok(Kind::More),
-            44 => Ok(Kind::AtLeast),
-            45 => Ok(Kind::Left),
-            46 => Ok(Kind::Right),
-            47 => Ok(Kind::Ampersand),
-            48 => Ok(Kind::Bar),
-            49 => Ok(Kind::Pling),
-            50 => Ok(Kind::At),
-            51 => Ok(Kind::Open),
-            52 => Ok(Kind::Close),
-            53 => Ok(Kind::Comma),
-            54 => Ok(Kind::Semicolon),
-            55 => Ok(Kind::Colon),
-            56 => Ok(Kind::Assign),
-            57 => Ok(Kind::Begin),
-            58 => Ok(Kind::End),
-            59 => Ok(Kind::Name),
-            60 => Ok(Kind::Number),
-            61 => Ok(Kind::String),
-            _ => Err(UnknownKind(number)),
-        }
     }
 }

@@ -18,7 +18,7 @@ ghost use Rattle.symbols.specs.Read.{Reads};
 ghost use Rattle.symbols.specs.Parts.{Finds, Matches, wanting, Writes, gain, ReadsAll};
 
 use crate::elements::Element;
-pub use kinds::{Kind, UnknownKind};
+pub use kinds::Kind;
 use text::Fault;
 
 // Why there are no symbols: document 01's refusal 1, or 15; or a fault, and the place of the byte that is wrong.
@@ -76,7 +76,7 @@ fn next_symbol(text: &[u8], at: usize) -> Result<Option<Found>, Faulty>
     let mut newline = false;
     let mut place = at;
     while place < text.len() {
-        match elements::element_at(text, place) {
+        match elements::element_at(&text[place..]) {
             Ok(Element::Symbol { kind, value, width }) => {
                 return Ok(Some(Found {
                     kind,

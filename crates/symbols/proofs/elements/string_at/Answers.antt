@@ -2,23 +2,24 @@ use Rattle.std.specs.Prelude.{Err}
 use Rattle.laws.proofs.Basics.{sym, ap, ◌∙◌, arith}
 use Rattle.text.specs.Answers.{found}
 use Rattle.text.proofs.Answers.{when-closed, when-unclosed, when-faulty}
+use Rattle.text.proofs.Quotes.{fault-within}
 use Rattle.text.proofs.Constants.{closed-inside}
-use Rattle.symbols.proofs.Quotations.{fault-inside, a-string, string-unclosed, string-faulty}
+use Rattle.symbols.proofs.Quotations.{a-string, string-unclosed, string-faulty}
 use Rattle.symbols.proofs.elements.string_at.Goals as goal
 
 pub overflow_add-result : goal.overflow_add-result
 overflow_add-result c = let args = c.args in
-    omega (arith, closed-inside 34 255 args.text.now args.at (when-closed _ (ap found (sym c.in-Ok.is) ∙ c.quoted_at.ensures)))
+    omega (arith, closed-inside 34 255 args.bytes.now 0 (when-closed _ (ap found (sym c.in-Ok.is) ∙ c.quoted_at.ensures)))
 
 pub overflow_add-result-in-Err-Faulty : goal.overflow_add-result-in-Err-Faulty
 overflow_add-result-in-Err-Faulty c = let args = c.args in
-    omega (arith, fault-inside args.text.now args.at 34 255 (when-faulty _ (sym (ap found (c.in-Err-Faulty.is ∙ ap Err c.in-Err-Faulty.field-0-is)) ∙ c.quoted_at.ensures)))
+    omega (arith, fault-within 34 255 0 args.bytes.now (when-faulty _ (sym (ap found (c.in-Err-Faulty.is ∙ ap Err c.in-Err-Faulty.field-0-is)) ∙ c.quoted_at.ensures)))
 
 pub returns-in-Ok : goal.returns-in-Ok
-returns-in-Ok c = a-string c.args.text.now c.args.at (when-closed _ (ap found (sym c.in-Ok.is) ∙ c.quoted_at.ensures))
+returns-in-Ok c = a-string c.args.bytes.now (when-closed _ (ap found (sym c.in-Ok.is) ∙ c.quoted_at.ensures))
 
 pub returns-in-Err-Unclosed : goal.returns-in-Err-Unclosed
-returns-in-Err-Unclosed c = rw c.refused_here.ensures (string-unclosed c.args.text.now c.args.at (when-unclosed _ (sym (ap found (c.in-Err-Unclosed.is ∙ ap Err c.in-Err-Unclosed.field-0-is)) ∙ c.quoted_at.ensures)))
+returns-in-Err-Unclosed c = rw c.refused_here.ensures (string-unclosed c.args.bytes.now (when-unclosed _ (sym (ap found (c.in-Err-Unclosed.is ∙ ap Err c.in-Err-Unclosed.field-0-is)) ∙ c.quoted_at.ensures)))
 
 pub returns-in-Err-Faulty : goal.returns-in-Err-Faulty
-returns-in-Err-Faulty c = string-faulty c.args.text.now c.args.at (when-faulty _ (sym (ap found (c.in-Err-Faulty.is ∙ ap Err c.in-Err-Faulty.field-0-is)) ∙ c.quoted_at.ensures))
+returns-in-Err-Faulty c = string-faulty c.args.bytes.now (when-faulty _ (sym (ap found (c.in-Err-Faulty.is ∙ ap Err c.in-Err-Faulty.field-0-is)) ∙ c.quoted_at.ensures))
