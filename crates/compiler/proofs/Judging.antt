@@ -18,8 +18,8 @@ use Rattle.compiler.specs.Locals.{Says, says_good, says_refused, NamedConstant, 
 use Rattle.compiler.specs.Locals.{Local, a_vector, some_values, encode_local}
 use Rattle.compiler.specs.Locals.{local_depth, FineLocal, scope_with, height_with, faults_l, local_says, ReadyLocal, GaveLocal}
 
-pub signed-minus : {b : Bool} {x : ℕ} (v : ℕ) → b ≡ true → x ≡ 65536 - v → x % 65536 ≡ signed b v
-signed-minus {b} {x} v e q = let z : x % 65536 ≡ (0 + (65536 - v)) % 65536 = ap (λ (k : ℕ). k % 65536) (omega arith) in rw e z
+pub signed_minus : {b : Bool} {x : ℕ} (v : ℕ) → b ≡ true → x ≡ 65536 - v → x % 65536 ≡ signed b v
+signed_minus {b} {x} v e q = let z : x % 65536 ≡ (0 + (65536 - v)) % 65536 = ap (λ (k : ℕ). k % 65536) (omega arith) in rw e z
 
 -- ---- what a name means, as a constant
 

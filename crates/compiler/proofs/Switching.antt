@@ -112,14 +112,14 @@ module _ {A : Type 0} (K : Holding A) where
 
 -- ---- a CASE counts
 
-pub one-case-is : {s : List ℕ} {end i k : ℕ} → i ≡ end - 1 → k ≡ get_or s i 0 → k ≡ 28 → CountsLabel s end 1
+pub one_case_is : {s : List ℕ} {end i k : ℕ} → i ≡ end - 1 → k ≡ get_or s i 0 → k ≡ 28 → CountsLabel s end 1
 unfolding case_items
-one-case-is {s} {end} ei ek q = let z : get_or s (end - 1) 0 ≡ 28 = cc in
+one_case_is {s} {end} ei ek q = let z : get_or s (end - 1) 0 ≡ 28 = cc in
     record { few = omega arith; by = of-label (λ l. 1 ≡ case_items (l ∷ [])) (λ p lo c a e h en f. refl) (λ p a e. absurd (omega arith)) }
 
-pub one-case-not : {s : List ℕ} {end i k : ℕ} → i ≡ end - 1 → k ≡ get_or s i 0 → (k ≡ 28 → ⊥) → CountsLabel s end 0
+pub one_case_not : {s : List ℕ} {end i k : ℕ} → i ≡ end - 1 → k ≡ get_or s i 0 → (k ≡ 28 → ⊥) → CountsLabel s end 0
 unfolding case_items
-one-case-not ei ek q = record {
+one_case_not ei ek q = record {
   few = omega arith;
   by = of-label (λ l. 0 ≡ case_items (l ∷ [])) (λ p lo c a e h en f. absurd (q (rw (ek, ei, a)))) (λ p a e. refl);
 }

@@ -8,7 +8,7 @@ ghost use Rattle.compiler.specs.Labels.{WritesPair, WritesPairs, WritesAll, Note
 
 use crate::kinds::{CASE, LABELLED};
 use crate::scope::entry;
-use crate::steps::{State, Verdict, blame, judge, minus, node_at, put, wrong};
+use crate::steps::{State, Verdict, blame, judge, node_at, put, wrong};
 use writing::{Base, label_word, word};
 
 // The constant of BY between `from` and `end`; 1 where there is none.
@@ -33,7 +33,7 @@ pub(crate) fn by_constant(source: &[u8], s: &[u32], from: usize, end: usize, top
     Verdict {
         word: 0,
         number: 11,
-        place: entry(s, minus(end, 2)),
+        place: entry(s, end.saturating_sub(2)),
     }
 }
 
@@ -49,11 +49,7 @@ fn next_item(s: &[u32], at: usize, end: usize) -> usize
     requires { (at < end) × (end < 2 ^ 32) }
     ensures { NextItem s.now at end result }
 {
-    let next = at + 2 + entry(s, at);
-    if next < end {
-        return next;
-    }
-    end
+    end.min(at + 2 + entry(s, at))
 }
 
 // The labels of the command that ends there.
@@ -69,10 +65,7 @@ fn labels_of(s: &[u32], end: usize) -> Span
     if n.inner < to {
         return Span { from: 0, to: 0 };
     }
-    Span {
-        from: n.start,
-        to: to,
-    }
+    Span { from: n.start, to }
 }
 
 // 12 at a label, and what is refused in its constant.
@@ -112,10 +105,11 @@ pub(crate) fn misplaced(
 }
 
 // How many labels are CASE: of one, of several, and of those before commands.
+#[tactic(auto, using(crate::proofs::Switching::one_case_is, crate::proofs::Switching::one_case_not))]
 fn one_case(s: &[u32], end: usize) -> usize
     ensures { CountsLabel s.now end result }
 {
-    if entry(s, minus(end, 1)) == CASE {
+    if entry(s, end.saturating_sub(1)) == CASE {
         1
     } else {
         0
@@ -190,17 +184,19 @@ fn default_of(s: &[u32], from: usize, end: usize, first: usize, done: usize) -> 
 fn put_word(text: &mut [u8], st: State, n: usize) -> State
     ensures { Emits (G.D n ∷ []) [] text.old text.new st result }
 {
-    let mut r = st;
-    r.at = word(text, st.at, n);
-    r
+    State {
+        at: word(text, st.at, n),
+        ..st
+    }
 }
 
 fn put_address(text: &mut [u8], st: State, n: usize) -> State
     ensures { Emits (G.DL n ∷ []) [] text.old text.new st result }
 {
-    let mut r = st;
-    r.at = label_word(text, st.at, n);
-    r
+    State {
+        at: label_word(text, st.at, n),
+        ..st
+    }
 }
 
 // A CASE's number with its command's label.
@@ -300,28 +296,7 @@ pub(crate) fn table(
 
 // Flag v is 1 where a good CASE v was met in the list, flag 65536 where DEFAULT was: none yet. There are eight in a byte, since their
 // room stands in the frames of the walk, once for each level of commands.
-fn no_marks() -> [u8; 8193]
-    ensures { result ≡ replicate 8193 0 }
-{
-    [0u8; 8193]
-}
-
-// 2 to the power k.
-fn power(k: usize) -> usize
-    requires { k < 8 }
-    ensures { (result ≡ 2 ^ k) × (1 ≤ result) × (result ≤ 128) }
-{
-    match k {
-        0 => 1,
-        1 => 2,
-        2 => 4,
-        3 => 8,
-        4 => 16,
-        5 => 32,
-        6 => 64,
-        _ => 128,
-    }
-}
+const MARKS: usize = 8193;
 
 // A flag is set, or it is already: 12.
 fn note(seen: &mut [u8], i: usize, place: usize, st: State) -> State
@@ -329,15 +304,14 @@ fn note(seen: &mut [u8], i: usize, place: usize, st: State) -> State
     ensures { Notes i place seen.old seen.new st result }
 {
     let at = i / 8;
-    if at < seen.len() {
-        let x = seen[at] as usize;
-        let p = power(i % 8);
-        if x / p % 2 == 0 {
-            seen[at] = (x + p) as u8;
-            return st;
-        }
+    if seen.len() <= at {
+        return st;
+    }
+    let mark = 1 << (i % 8);
+    if seen[at] / mark % 2 == 1 {
         return wrong(st, place, 12);
     }
+    seen[at] += mark;
     st
 }
 
@@ -399,7 +373,7 @@ pub(crate) fn doubled(
     requires { end < 2 ^ 32 }
     ensures { JudgesLabels source.now s.now from end top st result }
 {
-    let mut seen = no_marks();
+    let mut seen = [0u8; MARKS];
     let mut at = from;
     let mut r = st;
     while at < end {

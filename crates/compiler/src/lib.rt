@@ -138,7 +138,7 @@ fn walked(
     let d = Done {
         tall: NONE,
         state: State {
-            at: at,
+            at,
             label: functions + 1 + names,
             worst: NONE,
             high: 0,

@@ -87,14 +87,8 @@ fn name_fault(table: &[u32], st: State, m: usize, place: usize) -> State
     requires { (place < 2 ^ 32) × (length table.now ≡ 400) }
     ensures { NameFaults table.now m place st result }
 {
-    if m == 0 {
+    if m == 0 || m % 4 == 2 && entry(table, m / 4) == 0 {
         return st;
-    }
-    if m % 4 == 2 {
-        if entry(table, m / 4) == 0 {
-            return st;
-        }
-        return wrong(st, place, 9);
     }
     wrong(st, place, 9)
 }
@@ -108,7 +102,6 @@ fn enter(s: &mut [u32], table: &mut [u32], top: usize, leaf: usize, m: usize, k:
         let n = m / 4;
         if n < table.len() {
             table[n] = (k + 1) as u32;
-            return top;
         }
         return top;
     }
@@ -171,10 +164,12 @@ pub(crate) fn function(
     push(s, here.top, 0, 0);
     let b = declare(source, s, first, last, here.top + 2, 2, a);
     let c = reached(b, 2 + many);
-    let mut x = here;
-    x.top = here.top + 2 + 2 * many;
-    x.height = 2 + many;
-    x.routine = n.kind != EQUAL;
+    let x = Here {
+        top: here.top + 2 + 2 * many,
+        height: 2 + many,
+        routine: n.kind != EQUAL,
+        ..here
+    };
     let d = body(source, s, n.inner, text, x, c, n.kind);
     put(text, d, 7, false, Base::Plain, 4)
 }
@@ -234,10 +229,8 @@ pub(crate) fn function_count(s: &[u32], from: usize, end: usize) -> usize
     let mut n = 0;
     while at < end {
         let next = at + 2 + entry(s, at);
-        if entry(s, at + 1) == LET {
-            if next <= end {
-                n += group_count(s, at + 2, next);
-            }
+        if entry(s, at + 1) == LET && next <= end {
+            n += group_count(s, at + 2, next);
         }
         at = next;
     }

@@ -20,26 +20,20 @@ pub struct Done {
 }
 
 // The least 16.
+#[tactic(auto, using(crate::proofs::FunctionLists::tall_new, crate::proofs::FunctionLists::tall_low))]
 fn too_tall(tall: usize, high: usize, place: usize) -> usize
     requires { place < 2 ^ 32 }
     ensures { result ≡ least tall (cond (ltb 8192 high) (fault place 16) []) }
 {
     let key = place * 32 + 16;
-    if 8192 < high {
-        if key < tall {
-            return key;
-        }
-    }
-    tall
+    if 8192 < high { tall.min(key) } else { tall }
 }
 
 // The heights of the next function are its own.
 fn level(st: State) -> State
     ensures { result ≡ record { at = st.at; label = st.label; worst = st.worst; high = 0 } }
 {
-    let mut r = st;
-    r.high = 0;
-    r
+    State { high: 0, ..st }
 }
 
 // The functions of a group, whose names are known, with their labels from `label` on.
@@ -69,10 +63,7 @@ fn group(
         l += 1;
         at = next;
     }
-    Done {
-        tall: tall,
-        state: r,
-    }
+    Done { tall, state: r }
 }
 
 // Where the declarations stand: the end of the names in scope, how many functions there were, and what is done.
@@ -98,11 +89,11 @@ fn named(
     let k = items(source, s, from, end, l.top, global, l.done.state);
     Progress {
         top: k.top,
-        functions: l.functions,
         done: Done {
-            tall: l.done.tall,
             state: level(k.state),
+            ..l.done
         },
+        ..l
     }
 }
 
@@ -142,13 +133,13 @@ fn functions(
         Here {
             top: k.top,
             height: 0,
-            left: left,
-            strings: strings,
+            left,
+            strings,
             routine: false,
         },
         Done {
-            tall: l.done.tall,
             state: level(k.state),
+            ..l.done
         },
         l.functions + 1,
     );

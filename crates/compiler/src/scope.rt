@@ -1,102 +1,52 @@
 // The names in scope, on a stack at the front of scratch: two entries each, the name's place and width as one number, and what the name
 // means as a number; or two zeros where a block opens. The tree stands behind the stack and never changes.
-ghost use Rattle.std.specs.Prelude.{◌≡◌, Bool, ℕ, ◌+◌, ◌*◌, ◌-◌, ◌/◌, ◌%◌, ◌≤◌, ◌<◌, ◌^◌, min, length, get_or, take, drop};
+ghost use Rattle.std.specs.Prelude.{◌≡◌, Bool, ℕ, ◌+◌, ◌*◌, ◌-◌, ◌/◌, ◌%◌, ◌≤◌, ◌<◌, ◌^◌, length, get_or, take, drop};
 ghost use Rattle.language.specs.Names.{same_bytes, same_name};
 ghost use Rattle.language.specs.Fine.{FineName};
 ghost use Rattle.compiler.specs.Scope.{named, name_at, Looked, Told, Pushed, PushedName};
-
-use crate::steps::minus;
 
 // An entry of scratch; past its end, 0.
 pub(crate) fn entry(s: &[u32], i: usize) -> usize
     ensures { (result ≡ get_or s.now i 0) × (result < 2 ^ 32) }
 {
-    if i < s.len() { s[i] as usize } else { 0 }
+    s.get(i).copied().unwrap_or(0) as usize
 }
 
-// How many of n bytes from p on stand in a text of that length.
-fn within(length: usize, p: usize, n: usize) -> usize
-    ensures { result ≡ min n (length - p) }
-{
-    if length <= p {
-        return 0;
-    }
-    if n < length - p { n } else { length - p }
-}
-
-// A byte of the source; past its end, 0.
-fn byte_at(source: &[u8], i: usize) -> usize
-    ensures { result ≡ get_or source.now i 0 }
-{
-    if i < source.len() {
-        source[i] as usize
-    } else {
-        0
-    }
-}
-
-// The last byte of so many at a place.
-fn last_byte(source: &[u8], place: usize, n: usize) -> usize
+// The last byte of so many at a place; past the end of the source, 0.
+fn last_byte(source: &[u8], place: usize, n: usize) -> u8
     requires { (place < 2 ^ 32) × (n < 2 ^ 32) }
     ensures { result ≡ get_or source.now (place + (n - 1)) 0 }
 {
-    byte_at(source, place + minus(n, 1))
+    let at = place + n.saturating_sub(1);
+    source.get(at).copied().unwrap_or(0)
 }
 
-// Whether so many bytes at two places of the source are the same.
-fn same(source: &[u8], p: usize, q: usize, n: usize) -> bool
-    requires { (n ≤ length source.now - p) × (n ≤ length source.now - q) }
-    ensures { result ≡ same_bytes (take n (drop p source.now)) (take n (drop q source.now)) }
+// So many bytes of the source from a place on, as far as it goes.
+fn part(source: &[u8], place: usize, n: usize) -> &[u8]
+    ensures { result.now ≡ take n (drop place source.now) }
 {
-    let mut i = n;
-    while i > 0 {
-        i -= 1;
-        if source[p + i] != source[q + i] {
-            return false;
-        }
-    }
-    true
+    let rest = &source[place.min(source.len())..];
+    &rest[..n.min(rest.len())]
 }
 
-// The same where they may reach past the source.
-fn cut(source: &[u8], p: usize, q: usize, n: usize) -> bool
-    ensures { result ≡ same_bytes (take n (drop p source.now)) (take n (drop q source.now)) }
-{
-    let size = within(source.len(), p, n);
-    if size != within(source.len(), q, n) {
-        return false;
-    }
-    same(source, p, q, size)
-}
-
-// The same, quick where they do not: `last` is the last byte at `q`, and names that differ mostly do in that.
-fn alike(source: &[u8], p: usize, q: usize, n: usize, last: usize) -> bool
+// Whether so many bytes at two places of the source are the same: `last` is the last byte at `q`, and names that differ mostly do in that.
+fn alike(source: &[u8], p: usize, q: usize, n: usize, last: u8) -> bool
     requires { (p < 2 ^ 32) × (q < 2 ^ 32) × (n < 2 ^ 32) × (last ≡ get_or source.now (q + (n - 1)) 0) }
     ensures { result ≡ same_bytes (take n (drop p source.now)) (take n (drop q source.now)) }
 {
-    if source.len() < p + n {
-        return cut(source, p, q, n);
+    if n > 0 && last_byte(source, p, n) != last {
+        return false;
     }
-    if source.len() < q + n {
-        return cut(source, p, q, n);
-    }
-    if n > 0 {
-        if source[p + (n - 1)] as usize != last {
-            return false;
-        }
-    }
-    same(source, p, q, n)
+    part(source, p, n) == part(source, q, n)
 }
 
 // Whether a name of the stack is spelt like one of that place, width and last byte.
-fn spelt(source: &[u8], name: usize, place: usize, width: usize, last: usize) -> bool
+#[tactic(auto, using(crate::proofs::Scoping::other_width, crate::proofs::Scoping::same_width))]
+fn spelt(source: &[u8], name: usize, place: usize, width: usize, last: u8) -> bool
     requires { (name < 2 ^ 32) × (place < 2 ^ 32) × (width < 2 ^ 32) × (last ≡ get_or source.now (place + (width - 1)) 0) }
     ensures { result ≡ same_name source.now (named (name / 65536) (name % 65536)) (named place width) }
 {
-    if name % 65536 != width {
-        return false;
-    }
-    alike(source, name / 65536, place, width, last)
+    name % 65536 == width && alike(source, name / 65536, place, width, last)
 }
 
 // An entry of the stack.

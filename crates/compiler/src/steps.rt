@@ -78,38 +78,34 @@ pub struct Node {
     pub kind: usize,
 }
 
-// a - b, or 0.
-pub(crate) fn minus(a: usize, b: usize) -> usize
-    ensures { result ≡ a - b }
-{
-    if b < a { a - b } else { 0 }
-}
-
+#[tactic(auto, using(crate::proofs::Done::node_is))]
 pub(crate) fn node_at(s: &[u32], end: usize) -> Node
     ensures { NodeAt s.now end result }
 {
-    let inner = minus(end, 4);
+    let inner = end.saturating_sub(4);
     let size = entry(s, inner);
-    let start = minus(inner, size);
-    let value = entry(s, minus(end, 3));
-    let place = entry(s, minus(end, 2));
-    let kind = entry(s, minus(end, 1));
+    let start = inner.saturating_sub(size);
+    let value = entry(s, end.saturating_sub(3));
+    let place = entry(s, end.saturating_sub(2));
+    let kind = entry(s, end.saturating_sub(1));
     Node {
-        start: start,
-        inner: inner,
-        value: value,
-        place: place,
-        kind: kind,
+        start,
+        inner,
+        value,
+        place,
+        kind,
     }
 }
 
 // One level deeper.
+#[tactic(auto, using(crate::proofs::Done::inside_is))]
 pub(crate) fn inside(here: Here) -> Here
     ensures { result ≡ inside here }
 {
-    let mut r = here;
-    r.left = minus(here.left, 1);
-    r
+    Here {
+        left: here.left.saturating_sub(1),
+        ..here
+    }
 }
 
 // So much higher.
@@ -117,52 +113,52 @@ pub(crate) fn raised(here: Here, k: usize) -> Here
     requires { here.height + k < 2 ^ 64 }
     ensures { result ≡ raised k here }
 {
-    let mut r = here;
-    r.height = here.height + k;
-    r
+    Here {
+        height: here.height + k,
+        ..here
+    }
 }
 
 // An instruction with a number, and one with a label.
 pub(crate) fn put(text: &mut [u8], st: State, f: usize, i: bool, b: Base, n: usize) -> State
     ensures { Emits (I.instruction f i (base_of b) (I.number false n) ∷ []) [] text.old text.new st result }
 {
-    let mut r = st;
-    r.at = instruction(text, st.at, f, i, b, n);
-    r
+    State {
+        at: instruction(text, st.at, f, i, b, n),
+        ..st
+    }
 }
 
 pub(crate) fn put_to(text: &mut [u8], st: State, f: usize, n: usize) -> State
     ensures { Emits (G.to f n ∷ []) [] text.old text.new st result }
 {
-    let mut r = st;
-    r.at = labelled(text, st.at, f, n);
-    r
+    State {
+        at: labelled(text, st.at, f, n),
+        ..st
+    }
 }
 
 // A refusal.
+#[tactic(auto, using(crate::proofs::Done::faulted_least))]
 pub(crate) fn wrong(st: State, place: usize, number: usize) -> State
     requires { (place < 2 ^ 32) × (number < 32) }
     ensures { Faulted place number st result }
 {
-    let key = place * 32 + number;
-    if key < st.worst {
-        let mut r = st;
-        r.worst = key;
-        return r;
+    State {
+        worst: st.worst.min(place * 32 + number),
+        ..st
     }
-    st
 }
 
 // A height is reached.
+#[tactic(auto, using(crate::proofs::Done::reached_max))]
 pub(crate) fn reached(st: State, h: usize) -> State
     ensures { Reached h st result }
 {
-    if st.high < h {
-        let mut r = st;
-        r.high = h;
-        return r;
+    State {
+        high: st.high.max(h),
+        ..st
     }
-    st
 }
 
 // The value goes into the word at the height.
@@ -240,18 +236,20 @@ pub(crate) fn fresh(st: State, k: usize) -> State
     requires { st.label + k < 2 ^ 64 }
     ensures { Fresh k st result }
 {
-    let mut r = st;
-    r.label = st.label + k;
-    r
+    State {
+        label: st.label + k,
+        ..st
+    }
 }
 
 // A label.
 pub(crate) fn mark(text: &mut [u8], st: State, n: usize) -> State
     ensures { Emits (I.label n ∷ []) [] text.old text.new st result }
 {
-    let mut r = st;
-    r.at = label(text, st.at, n);
-    r
+    State {
+        at: label(text, st.at, n),
+        ..st
+    }
 }
 
 // In a VALOF that ends at that label.
@@ -374,9 +372,7 @@ pub(crate) fn for_step(text: &mut [u8], st: State, h: usize, by: usize, n: usize
 pub(crate) fn in_switch(ways: Ways, end: usize) -> Ways
     ensures { result ≡ in_switch end ways }
 {
-    let mut r = ways;
-    r.done = end;
-    r
+    Ways { done: end, ..ways }
 }
 
 // 9 at a name that means something in its block already.
@@ -498,10 +494,15 @@ pub(crate) fn named_constant(m: usize, minus: bool, name: usize, place: usize) -
     }
 }
 
+#[tactic(auto, using(crate::proofs::Judging::signed_minus))]
 pub(crate) fn signed(negative: bool, v: usize) -> usize
     ensures { result ≡ signed negative v }
 {
-    if negative { minus(65536, v) % 65536 } else { v }
+    if negative {
+        65536usize.saturating_sub(v) % 65536
+    } else {
+        v
+    }
 }
 
 // The constant that ends there.
@@ -543,7 +544,7 @@ pub(crate) fn judge_most(source: &[u8], s: &[u32], end: usize, top: usize, most:
         return Verdict {
             word: 0,
             number: 11,
-            place: entry(s, minus(end, 2)),
+            place: entry(s, end.saturating_sub(2)),
         };
     }
     j
@@ -599,28 +600,31 @@ pub(crate) fn marked(here: Here) -> Here
     requires { here.top + 2 < 2 ^ 64 }
     ensures { result ≡ marked here }
 {
-    let mut r = here;
-    r.top = here.top + 2;
-    r
+    Here {
+        top: here.top + 2,
+        ..here
+    }
 }
 
 pub(crate) fn set_at(here: Here, top: usize, height: usize) -> Here
     ensures { result ≡ placed top height here }
 {
-    let mut r = here;
-    r.top = top;
-    r.height = height;
-    r
+    Here {
+        top,
+        height,
+        ..here
+    }
 }
 
 // In a loop.
 pub(crate) fn in_loop(ways: Ways, next: usize, after: usize) -> Ways
     ensures { result ≡ in_loop next after ways }
 {
-    let mut r = ways;
-    r.next = next;
-    r.after = after;
-    r
+    Ways {
+        next,
+        after,
+        ..ways
+    }
 }
 
 // How many items a list has.

@@ -12,13 +12,11 @@ use text::{Character, character_at};
 use writing::{emit, global, label};
 
 // 1 for the kind of a string, 0 for any other.
+#[tactic(auto, using(crate::proofs::StringTexts::one_if_yes, crate::proofs::StringTexts::one_if_no))]
 fn one_if(kind: usize) -> usize
     ensures { result ≡ one_if kind }
 {
-    if kind == STRING {
-        return 1;
-    }
-    0
+    (kind == STRING) as usize
 }
 
 // How many of so many symbols are strings.
@@ -62,16 +60,14 @@ fn numbered(text: &mut [u8], at: usize, c: u8) -> usize
 }
 
 // As it stands, or by its number.
+#[tactic(auto, using(crate::proofs::StringTexts::plain_low, crate::proofs::StringTexts::plain_high, crate::proofs::StringTexts::plain_itself))]
 fn plain(text: &mut [u8], at: usize, c: u8) -> usize
     ensures { Appends (plain_text c) at result text.old text.new }
 {
-    if c < 32 {
-        return numbered(text, at, c);
+    if matches!(c, 32..=126) {
+        return emit(text, at, c);
     }
-    if c > 126 {
-        return numbered(text, at, c);
-    }
-    emit(text, at, c)
+    numbered(text, at, c)
 }
 
 // A character of a string.
@@ -99,13 +95,7 @@ fn characters(source: &[u8], from: usize, text: &mut [u8], at: usize) -> usize
                 x = character(text, x, c);
                 i += width;
             }
-            Character::Closing => {
-                return x;
-            }
-            Character::Ended => {
-                return x;
-            }
-            Character::Mistake(_) => {
+            Character::Closing | Character::Ended | Character::Mistake(_) => {
                 return x;
             }
         }

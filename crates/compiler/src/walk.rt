@@ -28,8 +28,8 @@ use crate::scope::{entry, lookup, push, push_name};
 use crate::steps::{
     Here, Placed, State, Ways, act_of, away, blame, count, declare, for_step, for_test, fresh,
     in_loop, in_switch, in_valof, index_end, inside, jump_unless, jump_when, keep, leave, mark,
-    marked, minus, name_address, name_store, node_at, operate, put, put_to, raised, reached,
-    set_at, store_indexed, store_through, tops, value, vector, wrong,
+    marked, name_address, name_store, node_at, operate, put, put_to, raised, reached, set_at,
+    store_indexed, store_through, tops, value, vector, wrong,
 };
 use writing::Base;
 
@@ -157,9 +157,9 @@ fn applied(
     if end <= middle {
         return expr(source, s, middle, text, here, st);
     }
-    let inner = minus(end, 2);
-    let start = minus(inner, entry(s, inner));
-    if entry(s, minus(end, 1)) == PLING {
+    let inner = end.saturating_sub(2);
+    let start = inner.saturating_sub(entry(s, inner));
+    if entry(s, end.saturating_sub(1)) == PLING {
         let a = applied(source, s, middle, start, text, here, st);
         return indexed(source, s, inner, text, here, a);
     }
@@ -298,8 +298,8 @@ fn located(
     ensures { GaveAddressIndex source.now s.old s.new end here text.old text.new st result }
 {
     let n = node_at(s, end);
-    let inner = minus(n.inner, 2);
-    let start = minus(inner, entry(s, inner));
+    let inner = n.inner.saturating_sub(2);
+    let start = inner.saturating_sub(entry(s, inner));
     let deep = inside(here);
     let a = applied(source, s, n.start + n.value, start, text, deep, st);
     let b = keep(text, a, here.height);
@@ -349,8 +349,8 @@ fn stored(source: &[u8], s: &mut [u32], end: usize, text: &mut [u8], here: Here,
     ensures { GaveSideIndex source.now s.old s.new end here text.old text.new st result }
 {
     let n = node_at(s, end);
-    let inner = minus(n.inner, 2);
-    let start = minus(inner, entry(s, inner));
+    let inner = n.inner.saturating_sub(2);
+    let start = inner.saturating_sub(entry(s, inner));
     let up = raised(inside(here), 1);
     let a = keep(text, st, here.height);
     let b = applied(source, s, n.start + n.value, start, text, up, a);
@@ -561,7 +561,7 @@ fn repeated(
     if n.kind == REPEATED {
         let middle = n.start + n.value;
         let k = count(s, middle, n.inner);
-        let own = minus(st.label + 3 * k, 3);
+        let own = (st.label + 3 * k).saturating_sub(3);
         let a = fresh(st, 3 * k);
         let b = tops(text, a, st.label, k);
         let c = plain(
@@ -604,7 +604,7 @@ fn forms(
         let a = mark(text, r, own + 1);
         let b = form(source, s, next, text, here, a, size, word, own);
         r = mark(text, b, own + 2);
-        own = minus(own, 3);
+        own = own.saturating_sub(3);
         at = next;
     }
     r
@@ -655,8 +655,7 @@ fn plain(
             let a = expr(source, s, n.inner, text, here, st);
             leave(text, a, ways.result, n.place)
         }
-        IF => when(source, s, end, text, here, ways, st),
-        UNLESS => when(source, s, end, text, here, ways, st),
+        IF | UNLESS => when(source, s, end, text, here, ways, st),
         BEGIN => block(source, s, end, text, here, ways, st),
         ASSIGN => assign(
             source,
@@ -669,8 +668,7 @@ fn plain(
             st,
         ),
         TEST => test(source, s, end, text, here, ways, st),
-        WHILE => while_do(source, s, end, text, here, ways, st),
-        UNTIL => while_do(source, s, end, text, here, ways, st),
+        WHILE | UNTIL => while_do(source, s, end, text, here, ways, st),
         FOR => for_to(source, s, end, text, here, ways, st),
         SWITCHON => switch(source, s, end, text, here, ways, st),
         CALLED => expr(source, s, end, text, here, st),
@@ -777,7 +775,7 @@ fn for_to(
 {
     let n = node_at(s, end);
     let body = node_at(s, n.inner);
-    let limit_end = minus(body.start, n.value);
+    let limit_end = body.start.saturating_sub(n.value);
     let limit = node_at(s, limit_end);
     let a = fresh(st, 3);
     let b = expr(source, s, limit.start, text, here, a);
