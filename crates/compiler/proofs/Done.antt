@@ -70,12 +70,12 @@ fault-not {place} {number} e = let z : length (fault place number) ≡ 0 = ap le
 pub step-min : (k x : ℕ) → cond (ltb k x) k x ≡ min x k
 step-min k x = by_cases (ltb k x) (λ e. let l = ltb-true k x e in rw e (omega arith)) (λ e. let l = ltb-false k x e in rw e (omega arith))
 
-pub faulted_least : {place number worst : ℕ} {st : State} → (place < 2 ^ 32) × (number < 32) → worst ≡ min st.worst (place * 32 + number)
+pub faulted_least : {place number n worst : ℕ} {st : State} → (place < 2 ^ 32) × (number < 32) → n ≡ number → worst ≡ min st.worst (place * 32 + n)
     → Faulted place number st (record { at = st.at; label = st.label; worst = worst; high = st.high })
 unfolding least
-faulted_least {place} {number} {st = st} fits e = record {
+faulted_least {place} {number} {st = st} fits en e = record {
   by = λ code t. record {
-    worst = e ∙ sym (step-min (place * 32 + number) st.worst);
+    worst = e ∙ rw en (sym (step-min (place * 32 + number) st.worst));
     fits = fault-fits fits;
     few = omega arith;
     grows = omega arith;

@@ -8,33 +8,32 @@ ghost use Rattle.compiler.specs.Labels.{WritesPair, WritesPairs, WritesAll, Note
 
 use crate::kinds::{CASE, LABELLED};
 use crate::scope::entry;
-use crate::steps::{State, Verdict, blame, judge, node_at, put, wrong};
+use crate::steps::{Refused, State, blame, judge, node_at, put, word_of, wrong};
+use text::Fault;
 use writing::{Base, label_word, word};
 
 // The constant of BY between `from` and `end`; 1 where there is none.
-pub(crate) fn by_constant(source: &[u8], s: &[u32], from: usize, end: usize, top: usize) -> Verdict
+pub(crate) fn by_constant(
+    source: &[u8],
+    s: &[u32],
+    from: usize,
+    end: usize,
+    top: usize,
+) -> Result<usize, Refused>
     requires { end < 2 ^ 32 }
     ensures { JudgesBy source.now s.now from end top result }
 {
     if end <= from {
-        return Verdict {
-            word: 1,
-            number: 0,
-            place: 0,
-        };
+        return Ok(1);
     }
-    let j = judge(source, s, end, top);
-    if j.number != 0 {
-        return j;
+    let word = judge(source, s, end, top)?;
+    if word == 0 {
+        return Err(Refused {
+            place: entry(s, end.saturating_sub(2)),
+            fault: Fault::Constant,
+        });
     }
-    if j.word != 0 {
-        return j;
-    }
-    Verdict {
-        word: 0,
-        number: 11,
-        place: entry(s, end.saturating_sub(2)),
-    }
+    Ok(word)
 }
 
 // Where the labels before a command stand.
@@ -74,7 +73,7 @@ fn misplaced_label(source: &[u8], s: &[u32], end: usize, top: usize, st: State) 
     ensures { MisplacesLabel source.now s.now end top st result }
 {
     let n = node_at(s, end);
-    let a = wrong(st, n.place, 12);
+    let a = wrong(st, n.place, Fault::Case);
     if n.kind != CASE {
         return a;
     }
@@ -217,7 +216,7 @@ fn pair(
         return st;
     }
     let j = judge(source, s, n.inner, top);
-    let a = put_word(text, st, j.word);
+    let a = put_word(text, st, word_of(j));
     put_address(text, a, k)
 }
 
@@ -309,7 +308,7 @@ fn note(seen: &mut [u8], i: usize, place: usize, st: State) -> State
     }
     let mark = 1 << (i % 8);
     if seen[at] / mark % 2 == 1 {
-        return wrong(st, place, 12);
+        return wrong(st, place, Fault::Case);
     }
     seen[at] += mark;
     st
@@ -332,10 +331,10 @@ fn doubled_label(
         return note(seen, 65536, n.place, st);
     }
     let j = judge(source, s, n.inner, top);
-    if j.number != 0 {
-        return blame(st, j);
+    match j {
+        Ok(word) => note(seen, word, n.place, st),
+        Err(_) => blame(st, j),
     }
-    note(seen, j.word, n.place, st)
 }
 
 // The labels before a command.

@@ -11,10 +11,11 @@ ghost use Rattle.compiler.specs.Groups.{CountsGroup};
 use crate::kinds::{EQUAL, GLOBAL, LET};
 use crate::scope::{entry, in_block, lookup, push, push_name};
 use crate::steps::{
-    Here, State, Verdict, Ways, again, blame, declare, judge, judge_most, mark, node_at, put,
-    reached, wrong,
+    Here, Refused, State, Ways, again, blame, declare, judge, judge_most, mark, node_at, put,
+    reached, word_of, wrong,
 };
 use crate::walk::{command, expr};
+use text::Fault;
 use writing::Base;
 
 // What is done, and the end of the names in scope.
@@ -27,7 +28,13 @@ pub struct Known {
 // ---- GLOBAL and MANIFEST
 
 // The constant of an item, of GLOBAL or of MANIFEST.
-fn item_constant(source: &[u8], s: &[u32], end: usize, top: usize, global: bool) -> Verdict
+fn item_constant(
+    source: &[u8],
+    s: &[u32],
+    end: usize,
+    top: usize,
+    global: bool,
+) -> Result<usize, Refused>
     requires { end < 2 ^ 32 }
     ensures { JudgesItem global source.now s.now end top result }
 {
@@ -70,7 +77,7 @@ pub(crate) fn items(
         let place = entry(s, at + 4);
         let a = blame(r, c);
         r = again(a, m, place);
-        push_name(s, top + 2 * k, at + 2, meaning(global, c.word));
+        push_name(s, top + 2 * k, at + 2, meaning(global, word_of(c)));
         k += 1;
         at = next;
     }
@@ -90,7 +97,7 @@ fn name_fault(table: &[u32], st: State, m: usize, place: usize) -> State
     if m == 0 || m % 4 == 2 && entry(table, m / 4) == 0 {
         return st;
     }
-    wrong(st, place, 9)
+    wrong(st, place, Fault::NameTwice)
 }
 
 // A function's name: it starts in its global, or it is known from here on. The names' end.

@@ -1,5 +1,6 @@
 // The single steps of the walk: what was done so far and where it stands, nodes of the tree, items written, names and constants.
 ghost use Rattle.std.specs.Prelude.{◌≡◌, Bool, true, false, cond, eqb, List, [], ◌∷◌, ◌++◌, ℕ, ◌+◌, ◌*◌, ◌-◌, ◌≤◌, ◌<◌, ◌^◌, length, get_or};
+ghost use Rattle.text.specs.Faults.{number_of};
 ghost use Rattle.items.specs.Item as I;
 ghost use Rattle.items.specs.Answers.{base_of};
 ghost use Rattle.code.specs.Generate as G;
@@ -14,13 +15,14 @@ ghost use Rattle.compiler.specs.Commands.{ReadyC, GaveC, ReadyU, GaveU, WhenKind
 ghost use Rattle.compiler.specs.Commands.{GaveMonadic, GaveAddress, GaveAddressIndex, GaveSide, GaveSideIndex, GaveRefused, IndexKind};
 ghost use Rattle.compiler.specs.Commands.{AddressOf, StoreTo, GoesAway};
 ghost use Rattle.compiler.specs.Assigns.{ReadyAssign, GaveAssign};
-ghost use Rattle.compiler.specs.Locals.{NamedConstant, Judges, JudgesMost, Blames, ReadyLocal, GaveLocal, ReadyLocals, GaveLocals, VectorKind};
+ghost use Rattle.compiler.specs.Locals.{NamedConstant, Judges, JudgesMost, Blames, Fitting, word_of, ReadyLocal, GaveLocal, ReadyLocals, GaveLocals, VectorKind};
 
 use crate::kinds::{
     AMPERSAND, ATLEAST, ATMOST, BAR, BREAK, ENDCASE, EQUAL, LEFT, LESS, LOOP, MINUS, MORE, NAME,
     NUMBER, PLUS, REM, REPEATWHILE, RETURN, RIGHT, SLASH, STAR, UNEQUAL,
 };
 use crate::scope::{entry, in_block, lookup, push_name};
+use text::Fault;
 use writing::{Base, instruction, label, labelled};
 
 // What was done so far: bytes of text, labels, the least refusal as place * 32 + number, and the greatest height.
@@ -60,12 +62,11 @@ pub struct Placed {
     pub done: State,
 }
 
-// A constant's word, with no refusal (number 0), or a refusal and its place, with the word 0.
+// What is refused in a constant, and where.
 #[derive(Clone, Copy, Drop)]
-pub struct Verdict {
-    pub word: usize,
-    pub number: usize,
+pub struct Refused {
     pub place: usize,
+    pub fault: Fault,
 }
 
 // A node: where it starts, where what stands before its record ends, and the record.
@@ -140,12 +141,12 @@ pub(crate) fn put_to(text: &mut [u8], st: State, f: usize, n: usize) -> State
 
 // A refusal.
 #[tactic(auto, using(crate::proofs::Done::faulted_least))]
-pub(crate) fn wrong(st: State, place: usize, number: usize) -> State
-    requires { (place < 2 ^ 32) × (number < 32) }
-    ensures { Faulted place number st result }
+pub(crate) fn wrong(st: State, place: usize, fault: Fault) -> State
+    requires { (place < 2 ^ 32) × (number_of fault < 32) }
+    ensures { Faulted place (number_of fault) st result }
 {
     State {
-        worst: st.worst.min(place * 32 + number),
+        worst: st.worst.min(place * 32 + fault.number() as usize),
         ..st
     }
 }
@@ -181,7 +182,7 @@ pub(crate) fn value(text: &mut [u8], st: State, m: usize, place: usize) -> State
         3 => put(text, st, 0, false, Base::Plain, m / 4),
         _ => {
             if m == 0 {
-                return wrong(st, place, 8);
+                return wrong(st, place, Fault::UnknownName);
             }
             put_to(text, st, 0, m / 4)
         }
@@ -270,7 +271,7 @@ pub(crate) fn leave(text: &mut [u8], st: State, to: usize, place: usize) -> Stat
     ensures { LeavesTo to place text.old text.new st result }
 {
     if to == 0 {
-        return wrong(st, place, 13);
+        return wrong(st, place, Fault::NothingToLeave);
     }
     put_to(text, st, 3, to)
 }
@@ -305,7 +306,7 @@ pub(crate) fn away(
         BREAK => leave(text, st, ways.after, place),
         LOOP => {
             if ways.after == 0 {
-                return wrong(st, place, 13);
+                return wrong(st, place, Fault::NothingToLeave);
             }
             put_to(text, st, 3, ways.next)
         }
@@ -314,7 +315,7 @@ pub(crate) fn away(
             if here.routine {
                 return put(text, st, 7, false, Base::Plain, 4);
             }
-            wrong(st, place, 13)
+            wrong(st, place, Fault::NothingToLeave)
         }
         _ => put(text, st, 7, false, Base::Plain, 22),
     }
@@ -383,7 +384,7 @@ pub(crate) fn again(st: State, m: usize, place: usize) -> State
     if m == 0 {
         return st;
     }
-    wrong(st, place, 9)
+    wrong(st, place, Fault::NameTwice)
 }
 
 // Names, by their leaves, declared one after another at frame words from the height on.
@@ -423,10 +424,10 @@ pub(crate) fn name_address(text: &mut [u8], st: State, m: usize, name: usize, pl
         2 => put(text, st, 0, false, Base::G, m / 4),
         _ => {
             if m == 0 {
-                let a = wrong(st, name, 8);
-                return wrong(a, place, 10);
+                let a = wrong(st, name, Fault::UnknownName);
+                return wrong(a, place, Fault::NoPlace);
             }
-            wrong(st, place, 10)
+            wrong(st, place, Fault::NoPlace)
         }
     }
 }
@@ -441,10 +442,10 @@ pub(crate) fn name_store(text: &mut [u8], st: State, m: usize, name: usize, plac
         2 => put(text, st, 1, false, Base::G, m / 4),
         _ => {
             if m == 0 {
-                let a = wrong(st, name, 8);
-                return wrong(a, place, 10);
+                let a = wrong(st, name, Fault::UnknownName);
+                return wrong(a, place, Fault::NoPlace);
             }
-            wrong(st, place, 10)
+            wrong(st, place, Fault::NoPlace)
         }
     }
 }
@@ -469,29 +470,28 @@ pub(crate) fn store_indexed(text: &mut [u8], st: State, h: usize) -> State
 }
 
 // What a name means, as a constant: `name` and `place` are the places of the name and of the constant.
-pub(crate) fn named_constant(m: usize, minus: bool, name: usize, place: usize) -> Verdict
+pub(crate) fn named_constant(
+    m: usize,
+    minus: bool,
+    name: usize,
+    place: usize,
+) -> Result<usize, Refused>
     requires { (name < 2 ^ 32) × (place < 2 ^ 32) × (m < 2 ^ 32) }
     ensures { NamedConstant m minus name place result }
 {
     if m == 0 {
-        return Verdict {
-            word: 0,
-            number: 8,
+        return Err(Refused {
             place: name,
-        };
+            fault: Fault::UnknownName,
+        });
     }
     if m % 4 == 3 {
-        return Verdict {
-            word: signed(minus, m / 4),
-            number: 0,
-            place: 0,
-        };
+        return Ok(signed(minus, m / 4));
     }
-    Verdict {
-        word: 0,
-        number: 11,
-        place: place,
-    }
+    Err(Refused {
+        place,
+        fault: Fault::Constant,
+    })
 }
 
 #[tactic(auto, using(crate::proofs::Judging::signed_minus))]
@@ -506,28 +506,20 @@ pub(crate) fn signed(negative: bool, v: usize) -> usize
 }
 
 // The constant that ends there.
-pub(crate) fn judge(source: &[u8], s: &[u32], end: usize, top: usize) -> Verdict
+pub(crate) fn judge(source: &[u8], s: &[u32], end: usize, top: usize) -> Result<usize, Refused>
     requires { end < 2 ^ 32 }
     ensures { Judges source.now s.now end top result }
 {
     let n = node_at(s, end);
     if n.kind == NUMBER {
-        return Verdict {
-            word: n.value % 65536,
-            number: 0,
-            place: 0,
-        };
+        return Ok(n.value % 65536);
     }
     if n.kind == NAME {
         let m = lookup(source, s, top, n.inner);
         return named_constant(m, false, n.place, n.place);
     }
     if n.start == n.inner {
-        return Verdict {
-            word: signed(true, n.value),
-            number: 0,
-            place: 0,
-        };
+        return Ok(signed(true, n.value));
     }
     let m = lookup(source, s, top, n.start);
     let name = entry(s, n.start + 2);
@@ -535,30 +527,42 @@ pub(crate) fn judge(source: &[u8], s: &[u32], end: usize, top: usize) -> Verdict
 }
 
 // The same with a limit, as for VEC and GLOBAL: 11 where it is greater.
-pub(crate) fn judge_most(source: &[u8], s: &[u32], end: usize, top: usize, most: usize) -> Verdict
+pub(crate) fn judge_most(
+    source: &[u8],
+    s: &[u32],
+    end: usize,
+    top: usize,
+    most: usize,
+) -> Result<usize, Refused>
     requires { end < 2 ^ 32 }
     ensures { JudgesMost most source.now s.now end top result }
 {
-    let j = judge(source, s, end, top);
-    if most < j.word {
-        return Verdict {
-            word: 0,
-            number: 11,
+    let word = judge(source, s, end, top)?;
+    if most < word {
+        return Err(Refused {
             place: entry(s, end.saturating_sub(2)),
-        };
+            fault: Fault::Constant,
+        });
     }
-    j
+    Ok(word)
 }
 
 // A constant's refusal, if it has one.
-pub(crate) fn blame(st: State, j: Verdict) -> State
-    requires { (j.place < 2 ^ 32) × (j.number < 32) }
+pub(crate) fn blame(st: State, j: Result<usize, Refused>) -> State
+    requires { Fitting j }
     ensures { Blames j st result }
 {
-    if j.number == 0 {
-        return st;
+    match j {
+        Ok(_) => st,
+        Err(e) => wrong(st, e.place, e.fault),
     }
-    wrong(st, j.place, j.number)
+}
+
+// Its word; 0 where it is refused.
+pub(crate) fn word_of(j: Result<usize, Refused>) -> usize
+    ensures { result ≡ word_of j }
+{
+    j.unwrap_or(0)
 }
 
 // A vector's address into its name's word.
@@ -587,10 +591,11 @@ pub(crate) fn vector(
     let j = judge_most(source, s, n.inner, here.top, 4095);
     let a = blame(st, j);
     let b = declare(source, s, n.start, n.start + 4, here.top, here.height, a);
-    let c = vector_code(text, b, here.height, j.word);
+    let size = word_of(j);
+    let c = vector_code(text, b, here.height, size);
     Placed {
         top: here.top + 2,
-        height: here.height + 2 + j.word,
+        height: here.height + 2 + size,
         done: c,
     }
 }

@@ -29,8 +29,9 @@ use crate::steps::{
     Here, Placed, State, Ways, act_of, away, blame, count, declare, for_step, for_test, fresh,
     in_loop, in_switch, in_valof, index_end, inside, jump_unless, jump_when, keep, leave, mark,
     marked, name_address, name_store, node_at, operate, put, put_to, raised, reached, set_at,
-    store_indexed, store_through, tops, value, vector, wrong,
+    store_indexed, store_through, tops, value, vector, word_of, wrong,
 };
+use text::Fault;
 use writing::Base;
 
 // An expression's value into A.
@@ -281,7 +282,7 @@ fn refuse(
     ensures { GaveRefused source.now s.old s.new end place here text.old text.new st result }
 {
     let a = expr(source, s, end, text, here, st);
-    wrong(a, place, 10)
+    wrong(a, place, Fault::NoPlace)
 }
 
 // The address of a word at an index.
@@ -784,7 +785,8 @@ fn for_to(
     let e = keep(text, d, here.height + 1);
     let by = by_constant(source, s, limit_end, body.start, here.top);
     let f = blame(e, by);
-    let g = for_test(text, f, here.height, by.word, st.label);
+    let step = word_of(by);
+    let g = for_test(text, f, here.height, step, st.label);
     push(s, here.top, 0, 0);
     push_name(s, here.top + 2, n.start, here.height * 4 + 1);
     let inner = set_at(here, here.top + 4, here.height + 2);
@@ -797,7 +799,7 @@ fn for_to(
         in_loop(ways, st.label + 1, st.label + 2),
         g,
     );
-    for_step(text, h, here.height, by.word, st.label)
+    for_step(text, h, here.height, step, st.label)
 }
 
 // SWITCHON: its end at the first label after those of its value, then a label for each command of the list.

@@ -10,7 +10,7 @@ use Rattle.compiler.proofs.RepeatForms.{repeated-body, repeated-forms, repeated-
 use Rattle.laws.proofs.Basics.{ℕ, ◌+◌, ◌-◌, ◌*◌, ◌^◌, ◌≤◌, ◌≡◌, refl, ◌∙◌, length, arith, needs}
 use Rattle.compiler.proofs.Commands.{gave-c-at, gave-u-at}
 use Rattle.compiler.proofs.Expressions.{ready_at, gave_at, left_at}
-use cycle.Proof.Ranks.{rank, at, less, calls, both, three, four, eight, fifteen, command, expr, for-to, form, forms, plain, repeated, while-do}
+use cycle.Proof.Ranks.{rank, at, less, calls, both, three, four, eight, sixteen, command, expr, for-to, form, forms, plain, repeated, while-do}
 
 abbrev while-do-cs : ℕ → cycle.Lts-while_do.Claims
 while-do-cs t = eight (steps.node_at.Reads.Asked, steps.node_at.Reads.Learnt) (steps.fresh.Reads.Asked, steps.fresh.Reads.Learnt)
@@ -47,10 +47,10 @@ while-do-ok t =
     c.mark.ensures)
 
 abbrev for-to-cs : ℕ → cycle.Lts-for_to.Claims
-for-to-cs t = fifteen (steps.node_at.Reads.Asked, steps.node_at.Reads.Learnt) less
+for-to-cs t = sixteen (steps.node_at.Reads.Asked, steps.node_at.Reads.Learnt) less
     (steps.fresh.Reads.Asked, steps.fresh.Reads.Learnt) (calls expr t) (steps.keep.Reads.Asked, steps.keep.Reads.Learnt)
     (steps.raised.Reads.Asked, steps.raised.Reads.Learnt) (proofs.labels.by_constant.Reads.Asked, proofs.labels.by_constant.Reads.Learnt)
-    (steps.blame.Reads.Asked, steps.blame.Reads.Learnt) (steps.for_test.Reads.Asked, steps.for_test.Reads.Learnt)
+    (steps.blame.Reads.Asked, steps.blame.Reads.Learnt) (steps.word_of.Reads.Asked, steps.word_of.Reads.Learnt) (steps.for_test.Reads.Asked, steps.for_test.Reads.Learnt)
     (proofs.scope.push.Reads.Asked, proofs.scope.push.Reads.Learnt) (proofs.scope.push_name.Reads.Asked, proofs.scope.push_name.Reads.Learnt)
     (steps.set_at.Reads.Asked, steps.set_at.Reads.Learnt) (steps.in_loop.Reads.Asked, steps.in_loop.Reads.Learnt) (calls command t)
     (steps.for_step.Reads.Asked, steps.for_step.Reads.Learnt)
@@ -84,6 +84,7 @@ for-to-ok t = cycle.Lts-for_to.spec (for-to-cs t) (at for-to t) (rank for-to).po
     -- by-constant-requires
     (λ c κs. omega (arith, c.node_at-body.ensures.start, c.node_at-n.ensures.inner, c.requires.1.0.small))
     (λ c _. c.by_constant-by.ensures.fits)
+    (λ c κs. omega arith)
     -- for-test-requires
     (λ c κs. (omega (arith, c.requires.1.0.height), omega (arith, c.requires.1.0.label)))
     -- push-requires
@@ -100,7 +101,7 @@ for-to-ok t = cycle.Lts-for_to.spec (for-to-cs t) (at for-to t) (rank for-to).po
     for-name-fine _ _ _ c.node_at-n.ensures c.node_at-body.ensures c.saturating_sub-limit_end.ensures
     c.node_at-limit.ensures c.requires.1.1.is _ c.fresh-a.ensures c.expr-b.ensures c.keep-c.ensures
     (gave_at _ c.raised.ensures c.expr-d.ensures) c.keep-e.ensures c.by_constant-by.ensures
-    c.blame-f.ensures c.for_test-g.ensures c.push.ensures c.requires.1.0 in
+    c.blame-f.ensures c.word_of-step.ensures c.for_test-g.ensures c.push.ensures c.requires.1.0 in
     (omega (arith, for-to-room t h), omega arith, omega arith, f))
     (λ c. let h : ForToTested t = search in let y = h.requires.1.0 in omega (arith, for-to-room t h))
     (λ c. let y = c.requires.1.0 in omega arith) (λ c κs. omega arith)
@@ -111,7 +112,7 @@ for-to-ok t = cycle.Lts-for_to.spec (for-to-cs t) (at for-to t) (rank for-to).po
     (for-body _ _ _ c.node_at-n.ensures c.node_at-body.ensures c.saturating_sub-limit_end.ensures
     c.node_at-limit.ensures c.requires.1.1.is _ c.fresh-a.ensures c.expr-b.ensures c.keep-c.ensures
     (gave_at _ c.raised.ensures c.expr-d.ensures) c.keep-e.ensures c.by_constant-by.ensures
-    c.blame-f.ensures c.for_test-g.ensures c.push.ensures c.push_name.ensures refl
+    c.blame-f.ensures c.word_of-step.ensures c.for_test-g.ensures c.push.ensures c.push_name.ensures refl
     c.requires.1.0)))
     (λ c κs. let y = c.requires.1.0 in (omega arith, omega arith))
     -- same-length
@@ -124,7 +125,7 @@ for-to-ok t = cycle.Lts-for_to.spec (for-to-cs t) (at for-to t) (rank for-to).po
     (λ c. for-gave _ _ _ c.node_at-n.ensures c.node_at-body.ensures c.saturating_sub-limit_end.ensures
     c.node_at-limit.ensures c.requires.1.1.is _ c.fresh-a.ensures c.expr-b.ensures c.keep-c.ensures
     (gave_at _ c.raised.ensures c.expr-d.ensures) c.keep-e.ensures c.by_constant-by.ensures
-    c.blame-f.ensures c.for_test-g.ensures c.push.ensures c.push_name.ensures refl _
+    c.blame-f.ensures c.word_of-step.ensures c.for_test-g.ensures c.push.ensures c.push_name.ensures refl _
     (gave-c-at _ c.set_at-inner.ensures c.in_loop.ensures c.command-h.ensures)
     c.for_step.ensures)
 

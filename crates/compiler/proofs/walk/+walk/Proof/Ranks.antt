@@ -112,8 +112,8 @@ abbrev pub fourteen : {A B C D E F G H I J K L M N O P Q R S T U W X Y Z A' B' C
 fourteen (a, b) (c, d) (e, f) (g, h) (i, j) (k, l) (m, n) (o, p) (q, r) (s, t) (u, w) (x, y) (z, a') (b', c') =
     (a, b, c, d, e, f, g, h, i, j, k, l, m, n, o, p, q, r, s, t, u, w, x, y, z, a', b', c')
 
-abbrev pub fifteen : {A B C D E F G H I J K L M N O P Q R S T U W X Y Z A' B' C' D' E' : Type 1}
-    → A × B → C × D → E × F → G × H → I × J → K × L → M × N → O × P → Q × R → S × T → U × W → X × Y → Z × A' → B' × C' → D' × E'
-    → A × B × C × D × E × F × G × H × I × J × K × L × M × N × O × P × Q × R × S × T × U × W × X × Y × Z × A' × B' × C' × D' × E'
-fifteen (a, b) (c, d) (e, f) (g, h) (i, j) (k, l) (m, n) (o, p) (q, r) (s, t) (u, w) (x, y) (z, a') (b', c') (d', e') =
-    (a, b, c, d, e, f, g, h, i, j, k, l, m, n, o, p, q, r, s, t, u, w, x, y, z, a', b', c', d', e')
+abbrev pub sixteen : {A B C D E F G H I J K L M N O P Q R S T U W X Y Z A' B' C' D' E' F' G' : Type 1}
+    → A × B → C × D → E × F → G × H → I × J → K × L → M × N → O × P → Q × R → S × T → U × W → X × Y → Z × A' → B' × C' → D' × E' → F' × G'
+    → A × B × C × D × E × F × G × H × I × J × K × L × M × N × O × P × Q × R × S × T × U × W × X × Y × Z × A' × B' × C' × D' × E' × F' × G'
+sixteen (a, b) (c, d) (e, f) (g, h) (i, j) (k, l) (m, n) (o, p) (q, r) (s, t) (u, w) (x, y) (z, a') (b', c') (d', e') (f', g') =
+    (a, b, c, d, e, f, g, h, i, j, k, l, m, n, o, p, q, r, s, t, u, w, x, y, z, a', b', c', d', e', f', g')
