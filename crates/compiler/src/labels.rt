@@ -95,6 +95,7 @@ pub(crate) fn misplaced(
 {
     let mut at = from;
     let mut r = st;
+    // goes on by each item's size
     while at < end {
         let next = next_item(s, at, end);
         r = misplaced_label(source, s, next, top, r);
@@ -121,6 +122,7 @@ fn count_cases(s: &[u32], from: usize, end: usize) -> usize
 {
     let mut at = from;
     let mut n = 0;
+    // goes on by each item's size
     while at < end {
         let next = next_item(s, at, end);
         n += one_case(s, next);
@@ -135,6 +137,7 @@ fn count_all(s: &[u32], from: usize, end: usize) -> usize
 {
     let mut at = from;
     let mut n = 0;
+    // goes on by each item's size
     while at < end {
         let next = next_item(s, at, end);
         let l = labels_of(s, next);
@@ -150,6 +153,7 @@ fn has_default(s: &[u32], from: usize, end: usize) -> bool
     ensures { HasDefault s.now from end result }
 {
     let mut at = from;
+    // goes on by each item's size
     while at < end {
         let next = next_item(s, at, end);
         if one_case(s, next) == 0 {
@@ -167,6 +171,7 @@ fn default_of(s: &[u32], from: usize, end: usize, first: usize, done: usize) -> 
 {
     let mut at = from;
     let mut k = first;
+    // goes on by each item's size
     while at < end {
         let next = next_item(s, at, end);
         let l = labels_of(s, next);
@@ -236,6 +241,7 @@ fn pairs(
 {
     let mut at = from;
     let mut r = st;
+    // goes on by each item's size
     while at < end {
         let next = next_item(s, at, end);
         r = pair(source, s, next, top, text, r, k);
@@ -260,6 +266,7 @@ fn all_pairs(
     let mut at = from;
     let mut k = first;
     let mut r = st;
+    // goes on by each item's size
     while at < end {
         let next = next_item(s, at, end);
         let l = labels_of(s, next);
@@ -352,6 +359,7 @@ fn doubled_in(
 {
     let mut at = from;
     let mut r = st;
+    // goes on by each item's size
     while at < end {
         let next = next_item(s, at, end);
         r = doubled_label(source, s, next, top, seen, r);
@@ -375,6 +383,7 @@ pub(crate) fn doubled(
     let mut seen = [0u8; MARKS];
     let mut at = from;
     let mut r = st;
+    // goes on by each item's size
     while at < end {
         let next = next_item(s, at, end);
         let l = labels_of(s, next);

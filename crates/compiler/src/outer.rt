@@ -6,13 +6,12 @@ ghost use Rattle.compiler.specs.Walks.{ReadyE, GaveE};
 ghost use Rattle.compiler.specs.Commands.{ReadyC, GaveC};
 ghost use Rattle.compiler.specs.Items.{meaning, JudgesItem, Items, ReadyItems};
 ghost use Rattle.compiler.specs.Groups.{NameFaults, Enters, ReadyGroup, GroupNames, ReadyBody, GaveBody, ReadyF, GaveF, CountsFunctions};
-ghost use Rattle.compiler.specs.Groups.{CountsGroup};
 
 use crate::kinds::{EQUAL, GLOBAL, LET};
 use crate::scope::{entry, in_block, lookup, push, push_name};
 use crate::steps::{
-    Here, Refused, State, Ways, again, blame, declare, judge, judge_most, mark, node_at, put,
-    reached, word_of, wrong,
+    Here, Refused, State, Ways, again, blame, count, declare, judge, judge_most, mark, node_at,
+    put, reached, word_of, wrong,
 };
 use crate::walk::{command, expr};
 use text::Fault;
@@ -70,6 +69,7 @@ pub(crate) fn items(
     let mut at = from;
     let mut k = 0;
     let mut r = st;
+    // goes on by each item's size
     while at < end {
         let next = at + 2 + entry(s, at);
         let c = item_constant(source, s, next, top + 2 * k, global);
@@ -135,6 +135,7 @@ pub(crate) fn group_names(
     let mut k = before;
     let mut now_top = top;
     let mut r = st;
+    // goes on by each item's size
     while at < end {
         let next = at + 2 + entry(s, at);
         let m = lookup(source, s, now_top, at + 2);
@@ -213,20 +214,6 @@ fn body(
     )
 }
 
-// How many functions a group has.
-pub(crate) fn group_count(s: &[u32], from: usize, end: usize) -> usize
-    requires { end < 2 ^ 32 }
-    ensures { CountsGroup s.now from end result × (result ≤ end - from) }
-{
-    let mut at = from;
-    let mut n = 0;
-    while at < end {
-        at = at + 2 + entry(s, at);
-        n += 1;
-    }
-    n
-}
-
 // How many functions there are: the strings' labels follow theirs.
 pub(crate) fn function_count(s: &[u32], from: usize, end: usize) -> usize
     requires { end < 2 ^ 32 }
@@ -234,10 +221,11 @@ pub(crate) fn function_count(s: &[u32], from: usize, end: usize) -> usize
 {
     let mut at = from;
     let mut n = 0;
+    // goes on by each item's size
     while at < end {
         let next = at + 2 + entry(s, at);
         if entry(s, at + 1) == LET && next <= end {
-            n += group_count(s, at + 2, next);
+            n += count(s, at + 2, next);
         }
         at = next;
     }

@@ -8,9 +8,9 @@ ghost use Rattle.compiler.specs.Items.{ReadyItems};
 ghost use Rattle.compiler.specs.Programs.{NamedItems, ReadyDeclaration, GaveDeclaration, ReadyProgram, GaveProgram};
 
 use crate::kinds::{GLOBAL, LET};
-use crate::outer::{function, group_count, group_names, items};
+use crate::outer::{function, group_names, items};
 use crate::scope::entry;
-use crate::steps::{Here, State};
+use crate::steps::{Here, State, count};
 
 // What is done, and the least refusal 16, as place * 32 + 16.
 #[derive(Clone, Copy, Drop)]
@@ -54,6 +54,7 @@ fn group(
     let mut l = label;
     let mut r = d.state;
     let mut tall = d.tall;
+    // goes on by each item's size
     while at < end {
         let next = at + 2 + entry(s, at);
         let a = function(source, s, next, text, here, r, l);
@@ -113,7 +114,7 @@ fn functions(
     ensures { GaveDeclaration source.now s.old s.new table.old table.new
         from end K.LET left strings text.old text.new l result }
 {
-    let n = group_count(s, from, end);
+    let n = count(s, from, end);
     let k = group_names(
         source,
         s,
@@ -195,6 +196,7 @@ pub(crate) fn program(
         functions: 0,
         done: d,
     };
+    // goes on by each item's size
     while at < end {
         let next = at + 2 + entry(s, at);
         let tag = entry(s, at + 1);

@@ -326,11 +326,9 @@ pub(crate) fn tops(text: &mut [u8], st: State, first: usize, k: usize) -> State
     requires { first + 3 * k < 2 ^ 64 }
     ensures { Emits (tops_code first k) [] text.old text.new st result }
 {
-    let mut i = 0;
     let mut r = st;
-    while i < k {
+    for i in 0..k {
         r = mark(text, r, first + 3 * i);
-        i += 1;
     }
     r
 }
@@ -400,16 +398,13 @@ pub(crate) fn declare(
     requires { ReadyNames s.old from end top height }
     ensures { Declares source.now s.old s.new from end top height st result }
 {
-    let mut at = from;
-    let mut k = 0;
     let mut r = st;
-    while at < end {
+    for k in 0..end.saturating_sub(from) / 4 {
+        let at = from + 4 * k;
         let m = in_block(source, s, top + 2 * k, at);
         let place = entry(s, at + 2);
         r = again(r, m, place);
         push_name(s, top + 2 * k, at, (height + k) * 4 + 1);
-        k += 1;
-        at += 4;
     }
     r
 }
@@ -632,13 +627,15 @@ pub(crate) fn in_loop(ways: Ways, next: usize, after: usize) -> Ways
     }
 }
 
-// How many items a list has.
+// How many items a list has. Each item begins with its size, and so does each part of the tree: a loop over them goes from one's end,
+// `at + 2 + entry(s, at)`, to the next one's, and there is no index for a `for` to count.
 pub(crate) fn count(s: &[u32], from: usize, end: usize) -> usize
     requires { end < 2 ^ 32 }
-    ensures { Counts s.now from end result }
+    ensures { Counts s.now from end result × (result ≤ end - from) }
 {
     let mut at = from;
     let mut n = 0;
+    // goes on by each item's size
     while at < end {
         at = at + 2 + entry(s, at);
         n += 1;

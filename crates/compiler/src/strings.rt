@@ -25,10 +25,8 @@ pub(crate) fn string_count(s: &[u32], count: usize) -> usize
     ensures { result ≡ string_count (decoded count s.now) }
 {
     let mut n = 0;
-    let mut i = 0;
-    while i < count {
+    for i in 0..count {
         n += one_if(entry(s, i * 3));
-        i += 1;
     }
     n
 }
@@ -147,40 +145,35 @@ pub(crate) fn strings(
 {
     let mut x = at;
     let mut number = first;
-    let mut i = 0;
-    while i < count {
+    for i in 0..count {
         let kind = entry(s, i * 3);
         let place = entry(s, i * 3 + 2);
         x = string_symbol(source, kind, place, text, x, number);
         number += one_if(kind);
-        i += 1;
     }
     x
 }
 
-// The global whose entry in the table is that label; 400 if there is none.
-fn global_of(table: &[u32], label: usize) -> usize
+// The global whose entry in the table is that label, if there is one.
+fn global_of(table: &[u32], label: usize) -> Option<usize>
     ensures { FindsGlobal table.now label result }
 {
-    let mut n = 0;
-    while n < 400 {
+    for n in 0..400 {
         if entry(table, n) == label {
-            return n;
+            return Some(n);
         }
-        n += 1;
     }
-    400
+    None
 }
 
 // The global in which the function with that label starts, if there is one.
 fn start(table: &[u32], label: usize, text: &mut [u8], at: usize) -> usize
     ensures { WritesStart table.now label at result text.old text.new }
 {
-    let n = global_of(table, label);
-    if n < 400 {
-        return global(text, at, n, label);
+    match global_of(table, label) {
+        Some(n) => global(text, at, n, label),
+        None => at,
     }
-    at
 }
 
 // The globals in which functions start: of each global the table has its function's label, or 0.
@@ -189,10 +182,8 @@ pub(crate) fn starts(table: &[u32], functions: usize, text: &mut [u8], at: usize
     ensures { WritesStarts table.now functions at result text.old text.new }
 {
     let mut x = at;
-    let mut k = 0;
-    while k < functions {
+    for k in 0..functions {
         x = start(table, k + 1, text, x);
-        k += 1;
     }
     x
 }

@@ -100,6 +100,7 @@ fn chain(
 {
     let mut at = from;
     let mut r = st;
+    // goes on by each item's size
     while at < end {
         let size = entry(s, at);
         let operator = entry(s, at + 1);
@@ -129,6 +130,7 @@ fn args(
     let mut at = from;
     let mut k = 0;
     let mut r = st;
+    // goes on by each item's size
     while at < end {
         let next = at + 2 + entry(s, at);
         let a = expr(source, s, next, text, raised(here, k), r);
@@ -379,6 +381,7 @@ fn assign(
     let mut l = left;
     let mut at = right;
     let mut r = st;
+    // goes on by each item's size
     while at < end {
         let next = at + 2 + entry(s, at);
         let a = expr(source, s, next, text, here, r);
@@ -430,6 +433,7 @@ fn locals(
         height: here.height,
         done: st,
     };
+    // goes on by each item's size
     while at < end {
         let next = at + 2 + entry(s, at);
         let now = set_at(here, r.top, r.height);
@@ -458,6 +462,7 @@ fn list(
 {
     let mut at = from;
     let mut r = st;
+    // goes on by each item's size
     while at < end {
         let next = at + 2 + entry(s, at);
         r = command(source, s, next, text, here, ways, r);
@@ -598,6 +603,7 @@ fn forms(
     let mut at = from;
     let mut own = innermost;
     let mut r = st;
+    // goes on by each item's size
     while at < end {
         let size = entry(s, at);
         let word = entry(s, at + 1);
@@ -867,6 +873,7 @@ fn cases(
     let mut at = from;
     let mut k = 0;
     let mut r = st;
+    // goes on by each item's size
     while at < end {
         let next = at + 2 + entry(s, at);
         let a = mark(text, r, first + k);

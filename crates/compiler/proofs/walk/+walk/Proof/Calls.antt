@@ -24,7 +24,7 @@ applied-read t c = last-read c.if-end-middle.false c.saturating_sub.ensures c.en
 
 applied-few : (t : ℕ) (c : cycle.Lts-applied.After-count-n (applied-cs t) (at applied t) (rank applied).post)
     → c.count-n.result < c.args.end
-applied-few t c = call-few (applied-read t (search)) c.if-entry-eq-PLING.false c.count-n.ensures c.requires.1
+applied-few t c = call-few (applied-read t (search)) c.if-entry-eq-PLING.false c.count-n.ensures.0 c.requires.1
 
 pub applied-ok : {M : Type 1} (t : ℕ) → cycle.Lts-applied.Closed (applied-cs t) (at applied t) (rank applied).post M
 applied-ok t = cycle.Lts-applied.spec (applied-cs t) (at applied t) (rank applied).post (λ c κs. search (needs, primary-part)) (λ c. omega arith)

@@ -176,7 +176,7 @@ repeated-cs t = eight (steps.node_at.Reads.Asked, steps.node_at.Reads.Learnt) (s
 
 repeated-fit : (t : ℕ) (c : cycle.Lts-repeated.After-count-k (repeated-cs t) (at repeated t) (rank repeated).post) → (1 ≤ c.count-k.result) ×
     (c.args.st.label + 3 * c.count-k.result + 3 ≤ 2 ^ 29)
-repeated-fit t c = repeated-few _ c.node_at-n.ensures c.if-n-eq-REPEATED.true refl c.count-k.ensures
+repeated-fit t c = repeated-few _ c.node_at-n.ensures c.if-n-eq-REPEATED.true refl c.count-k.ensures.0
     c.requires.1
 
 pub repeated-ok : {M : Type 1} (t : ℕ) → cycle.Lts-repeated.Closed (repeated-cs t) (at repeated t) (rank repeated).post M
@@ -186,17 +186,17 @@ repeated-ok t =
     (λ c. omega (arith, repeated-fit t (search))) (λ c κs. omega (arith, repeated-fit t (search))) (λ c κs. omega (arith, repeated-fit t (search)))
     (λ c. omega (arith, repeated-fit t (search))) (λ c. omega (arith, repeated-fit t (search))) (λ c κs. omega arith)
     -- plain-requires
-    (λ c κs. both (omega (arith, c.requires.0)) (repeated-body _ c.node_at-n.ensures c.if-n-eq-REPEATED.true refl c.count-k.ensures
+    (λ c κs. both (omega (arith, c.requires.0)) (repeated-body _ c.node_at-n.ensures c.if-n-eq-REPEATED.true refl c.count-k.ensures.0
     c.fresh-a.ensures c.tops-b.ensures c.requires.1))
     -- forms-requires
     (λ c κs. both (omega (arith, c.requires.0)) (both
-    (repeated-forms _ c.node_at-n.ensures c.if-n-eq-REPEATED.true refl c.count-k.ensures c.fresh-a.ensures
+    (repeated-forms _ c.node_at-n.ensures c.if-n-eq-REPEATED.true refl c.count-k.ensures.0 c.fresh-a.ensures
     c.tops-b.ensures _ c.args.ways c.saturating_sub-own.ensures
     (gave-u-at _ refl c.in_loop.ensures c.plain-c.ensures) c.requires.1)
     (omega (arith, repeated-fit t (search), c.saturating_sub-own.ensures))))
     (λ c. omega arith) (λ c. omega arith)
     -- returns
-    (λ c. repeated-gave _ c.node_at-n.ensures c.if-n-eq-REPEATED.true refl c.count-k.ensures c.fresh-a.ensures
+    (λ c. repeated-gave _ c.node_at-n.ensures c.if-n-eq-REPEATED.true refl c.count-k.ensures.0 c.fresh-a.ensures
     c.tops-b.ensures _ _ c.saturating_sub-own.ensures (gave-u-at _ refl c.in_loop.ensures c.plain-c.ensures)
     c.forms.ensures)
     (λ c κs. search (needs, once-part)) (λ c. omega arith) (λ c. omega arith) (λ c. search once-gave)
