@@ -409,32 +409,23 @@ pub(crate) fn declare(
     r
 }
 
-// The address of what a name means; 8 if it is unknown, 10 if it has none.
-pub(crate) fn name_address(text: &mut [u8], st: State, m: usize, name: usize, place: usize) -> State
+// What a name means, by the machine's function 0, which takes its address, or 1, by which A goes to it; 8 if it is unknown, 10 if it has no
+// address.
+pub(crate) fn name_word(
+    text: &mut [u8],
+    st: State,
+    function: usize,
+    m: usize,
+    name: usize,
+    place: usize,
+) -> State
     requires { (name < 2 ^ 32) × (place < 2 ^ 32) }
-    ensures { AddressOf m name place text.old text.new st result }
+    ensures { (function ≡ 0 → AddressOf m name place text.old text.new st result)
+        × (function ≡ 1 → StoreTo m name place text.old text.new st result) }
 {
     match m % 4 {
-        1 => put(text, st, 0, false, Base::P, m / 4),
-        2 => put(text, st, 0, false, Base::G, m / 4),
-        _ => {
-            if m == 0 {
-                let a = wrong(st, name, Fault::UnknownName);
-                return wrong(a, place, Fault::NoPlace);
-            }
-            wrong(st, place, Fault::NoPlace)
-        }
-    }
-}
-
-// A goes to what a name means; 8 if it is unknown, 10 if it is nothing to assign to.
-pub(crate) fn name_store(text: &mut [u8], st: State, m: usize, name: usize, place: usize) -> State
-    requires { (name < 2 ^ 32) × (place < 2 ^ 32) }
-    ensures { StoreTo m name place text.old text.new st result }
-{
-    match m % 4 {
-        1 => put(text, st, 1, false, Base::P, m / 4),
-        2 => put(text, st, 1, false, Base::G, m / 4),
+        1 => put(text, st, function, false, Base::P, m / 4),
+        2 => put(text, st, function, false, Base::G, m / 4),
         _ => {
             if m == 0 {
                 let a = wrong(st, name, Fault::UnknownName);

@@ -28,8 +28,8 @@ use crate::scope::{entry, lookup, push, push_name};
 use crate::steps::{
     Here, Placed, State, Ways, act_of, away, blame, count, declare, for_step, for_test, fresh,
     in_loop, in_switch, in_valof, index_end, inside, jump_unless, jump_when, keep, leave, mark,
-    marked, name_address, name_store, node_at, operate, put, put_to, raised, reached, set_at,
-    store_indexed, store_through, tops, value, vector, word_of, wrong,
+    marked, name_word, node_at, operate, put, put_to, raised, reached, set_at, store_indexed,
+    store_through, tops, value, vector, word_of, wrong,
 };
 use text::Fault;
 use writing::Base;
@@ -256,7 +256,7 @@ fn address(
         OPEN => address(source, s, n.inner, text, inside(here), st, place),
         NAME => {
             let m = lookup(source, s, here.top, n.inner);
-            name_address(text, st, m, n.place, place)
+            name_word(text, st, 0, m, n.place, place)
         }
         SUFFIXED => located(source, s, end, text, here, st),
         MONADIC => {
@@ -330,7 +330,7 @@ fn side(
         OPEN => side(source, s, n.inner, text, inside(here), st, place),
         NAME => {
             let m = lookup(source, s, here.top, n.inner);
-            name_store(text, st, m, n.place, place)
+            name_word(text, st, 1, m, n.place, place)
         }
         SUFFIXED => stored(source, s, end, text, here, st),
         MONADIC => {

@@ -15,7 +15,7 @@ use cycle.Proof.Ranks.{rank, at, less, below, calls, both, four, eight, nine, el
 
 abbrev address-cs : ℕ → cycle.Lts-address.Claims
 address-cs t = eight (steps.node_at.Reads.Asked, steps.node_at.Reads.Learnt) (steps.inside.Reads.Asked, steps.inside.Reads.Learnt) (calls address t)
-    (proofs.scope.lookup.Reads.Asked, proofs.scope.lookup.Reads.Learnt) (steps.name_address.Reads.Asked, steps.name_address.Reads.Learnt)
+    (proofs.scope.lookup.Reads.Asked, proofs.scope.lookup.Reads.Learnt) (steps.name_word.Reads.Asked, steps.name_word.Reads.Learnt)
     (calls located t) (calls expr t) (calls refuse t)
 
 pub address-ok : {M : Type 1} (t : ℕ) → cycle.Lts-address.Closed (address-cs t) (at address t) (rank address).post M
@@ -25,7 +25,7 @@ address-ok t = cycle.Lts-address.spec (address-cs t) (at address t) (rank addres
     (λ c κs. both (let falls = c.requires.0 in
     omega (arith, left_at, some_left)) (search (ready_at, monadic-part)))
     (λ c. omega arith) (λ c. omega arith) (λ c. search (address-pling, gave_at)) (λ c κs. search needs) (λ c κs. search needs) (λ c. omega arith)
-    (λ c. omega arith) (λ c. search (address-open, gave-address-at)) (λ c. omega arith) (λ c. omega arith) (λ c. search address-name)
+    (λ c. omega arith) (λ c. search (address-open, gave-address-at)) (λ c. omega arith) (λ c. omega arith) (λ c. search (address-name, c.name_word.ensures.0 refl))
     (λ c. omega arith) (λ c. omega arith) (λ c. c.located.ensures
     c.args.place)
     (λ c. omega arith) (λ c. omega arith)
@@ -81,7 +81,7 @@ refuse-ok t = cycle.Lts-refuse.spec (refuse-cs t) (at refuse t) (rank refuse).po
 
 abbrev side-cs : ℕ → cycle.Lts-side.Claims
 side-cs t = eleven (steps.node_at.Reads.Asked, steps.node_at.Reads.Learnt) (steps.inside.Reads.Asked, steps.inside.Reads.Learnt) (calls side t)
-    (proofs.scope.lookup.Reads.Asked, proofs.scope.lookup.Reads.Learnt) (steps.name_store.Reads.Asked, steps.name_store.Reads.Learnt) (calls stored t)
+    (proofs.scope.lookup.Reads.Asked, proofs.scope.lookup.Reads.Learnt) (steps.name_word.Reads.Asked, steps.name_word.Reads.Learnt) (calls stored t)
     (steps.keep.Reads.Asked, steps.keep.Reads.Learnt) (steps.raised.Reads.Asked, steps.raised.Reads.Learnt) (calls expr t)
     (steps.store_through.Reads.Asked, steps.store_through.Reads.Learnt) (calls refuse t)
 
@@ -107,7 +107,7 @@ side-ok t = cycle.Lts-side.spec (side-cs t) (at side t) (rank side).post (λ c �
     (λ c κs. omega arith)
     (λ c κs. both (omega (arith, c.requires.0, left_at))
     (search ready_at)) (λ c κs. omega arith) (λ c κs. (omega (arith, left_at), (search ready_at, omega arith))) (λ c. omega arith) (λ c. omega arith)
-    (λ c. search (side-open, gave-side-at)) (λ c. omega arith) (λ c. omega arith) (λ c. search side-name) (λ c. omega arith) (λ c. omega arith)
+    (λ c. search (side-open, gave-side-at)) (λ c. omega arith) (λ c. omega arith) (λ c. search (side-name, c.name_word.ensures.1 refl)) (λ c. omega arith) (λ c. omega arith)
     (λ c. c.stored.ensures
     c.args.place)
     (λ c. omega arith) (λ c. omega arith)
