@@ -1,5 +1,5 @@
 -- Flags, eight in an entry: what one more changes.
-use Rattle.laws.proofs.Basics.{ℕ, zero, suc, ◌+◌, ◌*◌, ◌/◌, ◌%◌, ◌^◌, ◌<◌, ◌≤◌, zero-le, ◌≡◌, refl, sym, ap, ◌∙◌, List, length, get_or, set, replicate}
+use Rattle.laws.proofs.Basics.{ℕ, zero, suc, ◌+◌, ◌*◌, ◌/◌, ◌%◌, ◌^◌, ◌<◌, ◌≤◌, ◌≡◌, refl, sym, ap, ◌∙◌, List, length, get_or, set, replicate}
 use Rattle.laws.proofs.Basics.{get_or-replicate, List·getD-eq-default, get_or-set_same, get_or-set_other, eqb, arith, eqb-true, eqb-false}
 use Rattle.laws.proofs.Cases.{by_cases}
 use native.Mathlib.Nat.{pow-suc, zero-div}

@@ -11,7 +11,7 @@ use Rattle.compiler.proofs.Language.{encode_constant}
 use Rattle.compiler.proofs.Language.{encode_positive, encode_negative, encode_expressions, FineName, FineNames, FineConstant}
 use Rattle.language.specs.Names as N
 use Rattle.code.specs.Generate as G
-use Rattle.compiler.proofs.Vocabulary.{Shows, Did, Looked, code, found, name_at, State, Here, Node, FineEs, NodeAt, Emits, Faulted, Holds, ReadyArgs}
+use Rattle.compiler.proofs.Vocabulary.{Shows, Looked, code, found, name_at, State, Here, Node, FineEs, NodeAt, Emits, Faulted, Holds, ReadyArgs}
 use Rattle.compiler.proofs.Vocabulary.{GaveArgs, Verdict, Refused, ReadyNames, Declares}
 use Rattle.compiler.proofs.Common.{ready-names, keeps-all, keeps_then, keeps-shows, name-there, means-unknown, means-manifest, Held}
 use Rattle.compiler.proofs.Common.{looked-word, did_none, did_then, did-emit, did-as, same_refl, code_is, keeps-lies, kid, ends, value-is}

@@ -1,5 +1,5 @@
 -- What is written behind the functions: the strings, and the globals in which functions start.
-use Rattle.std.specs.Prelude.{ℕ, suc, ◌≤◌, ◌<◌, ◌≡◌, cond, List, [], ◌∷◌, length, get_or, drop, eqb, Option, Some, None}
+use Rattle.std.specs.Prelude.{ℕ, suc, ◌<◌, ◌≡◌, cond, List, [], ◌∷◌, length, get_or, drop, eqb, Option, Some, None}
 use Rattle.items.specs.Item as I
 use Rattle.items.specs.Render.{plain_text, character_text, characters_text}
 use Rattle.text.specs.Quoted.{closed, characters_of, quoted}

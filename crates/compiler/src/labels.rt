@@ -43,7 +43,8 @@ pub struct Span {
     pub to: usize,
 }
 
-// Where the item at `at` ends.
+// Where the item at `at` ends. The loops below walk the same items with other acts, some with text, flags or a count beside the state: one
+// walk over a closure would need what each says as the closure's contract, and be no plainer.
 fn next_item(s: &[u32], at: usize, end: usize) -> usize
     requires { (at < end) × (end < 2 ^ 32) }
     ensures { NextItem s.now at end result }
@@ -184,7 +185,8 @@ fn default_of(s: &[u32], from: usize, end: usize, first: usize, done: usize) -> 
     done
 }
 
-// A word, and one that is a label's address.
+// A word, and one that is a label's address. Each is one call of `writing`, as `put` and `mark` are: one function that is told which to call
+// would be no plainer.
 fn put_word(text: &mut [u8], st: State, n: usize) -> State
     ensures { Emits (G.D n ∷ []) [] text.old text.new st result }
 {

@@ -57,7 +57,8 @@ fn stacked(s: &[u32], i: usize) -> usize
     s[i] as usize
 }
 
-// What a leaf's name means, as a number, and 0 if it is unknown: blocks from the innermost out, and the names of each.
+// What a leaf's name means, as a number, and 0 if it is unknown, since it stands so in lent scratch: blocks from the innermost out, and the
+// names of each. Nested labelled loops, the form that document 01 names.
 pub(crate) fn lookup(source: &[u8], s: &[u32], top: usize, leaf: usize) -> usize
     requires { leaf < 2 ^ 32 }
     ensures { Looked source.now s.now top leaf result × (result < 2 ^ 32) }
@@ -98,6 +99,7 @@ pub(crate) fn in_block(source: &[u8], s: &[u32], top: usize, leaf: usize) -> usi
     let place = entry(s, leaf + 2);
     let last = last_byte(source, place, width);
     let mut at = top;
+    // goes down by two entries, as in `lookup`
     while at >= 2 {
         at -= 2;
         let m = stacked(s, at + 1);

@@ -25,7 +25,8 @@ use crate::scope::{entry, in_block, lookup, push_name};
 use text::Fault;
 use writing::{Base, instruction, label, labelled};
 
-// What was done so far: bytes of text, labels, the least refusal as place * 32 + number, and the greatest height.
+// What was done so far: bytes of text, labels, the least refusal as place * 32 + number, and the greatest height. The refusal stays one
+// number, and NONE for none, since the definitions `Did` and `least` (specs/Walked) say it of that number, and they may not change.
 #[derive(Clone, Copy, Drop)]
 pub struct State {
     pub at: usize,
@@ -45,7 +46,8 @@ pub struct Here {
     pub routine: bool,
 }
 
-// The labels to which BREAK, LOOP, ENDCASE and RESULTIS go; 0 where there is none.
+// The labels to which BREAK, LOOP, ENDCASE and RESULTIS go; 0 where there is none, as the definition of these ways out (code's `Exits`)
+// has it.
 #[derive(Clone, Copy, Drop)]
 pub struct Ways {
     pub after: usize,

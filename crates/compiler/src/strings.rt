@@ -86,6 +86,7 @@ fn characters(source: &[u8], from: usize, text: &mut [u8], at: usize) -> usize
 {
     let mut i = from;
     let mut x = at;
+    // goes on by each character's width
     loop {
         let one = character_at(source, i, b'"');
         match one {

@@ -1,4 +1,4 @@
-use Rattle.laws.proofs.Basics.{refl, arith, needs}
+use Rattle.laws.proofs.Basics.{refl, arith}
 use Rattle.compiler.proofs.Doubling.{list-begin, list-next, list-end}
 use Rattle.compiler.proofs.labels.doubled.Goals as goal
 

@@ -1,4 +1,4 @@
-use Rattle.laws.proofs.Basics.{ℕ, ◌<◌, refl, subst, arith}
+use Rattle.laws.proofs.Basics.{ℕ, refl, subst, arith}
 use Rattle.compiler.proofs.Declarations.{NamesPart, names-begin, names-next, names-end, names-fit}
 use Rattle.compiler.proofs.steps.declare.Goals as goal
 
