@@ -57,8 +57,9 @@ fn stacked(s: &[u32], i: usize) -> usize
     s[i] as usize
 }
 
-// What a leaf's name means, as a number, and 0 if it is unknown, since it stands so in lent scratch: blocks from the innermost out, and the
-// names of each. Nested labelled loops, the form that document 01 names.
+// What a leaf's name means, as the number that stands for it in lent scratch, and 0 if it is unknown (an enum in its place was tried, and the
+// proofs of five functions that take it did not close): blocks from the innermost out, and the names of each. Nested labelled loops are
+// the form that document 01 names.
 pub(crate) fn lookup(source: &[u8], s: &[u32], top: usize, leaf: usize) -> usize
     requires { leaf < 2 ^ 32 }
     ensures { Looked source.now s.now top leaf result × (result < 2 ^ 32) }
