@@ -231,27 +231,41 @@ leaves_jump {to} e f = record { did = rw (ne_eqb to 0 e) (emits-did _ f (λ n. r
 
 -- ---- the value of a name
 
-module _ (place : ℕ) {m : ℕ} {t t' : List ℕ} {st r : State} where
-  pub value-1 : m % 4 ≡ 1 → Emits (I.instruction 0 true I.P (I.number false (m / 4)) ∷ []) [] t t' st r → Means m place t t' st r
-  unfolding expr_code of_expr expr_labels
-  value-1 q f = record { by = λ strings h w e. rw (means-local w e q) (emits-did _ f (λ n. refl)) }
+abbrev one : I.Item → Code
+one i = record { items = i ∷ []; heights = []; labels = 0 }
 
-  pub value-2 : m % 4 ≡ 2 → Emits (I.instruction 0 true I.G (I.number false (m / 4)) ∷ []) [] t t' st r → Means m place t t' st r
+module _ (place : ℕ) {k : ℕ} {t t' : List ℕ} {st r : State} where
+  pub value-local : Emits (I.instruction 0 true I.P (I.number false k) ∷ []) [] t t' st r → Means (k * 4 + 1) place t t' st r
   unfolding expr_code of_expr expr_labels
-  value-2 q f = record { by = λ strings h w e. rw (means-global w e q) (emits-did _ f (λ n. refl)) }
-
-  pub value-3 : m % 4 ≡ 3 → Emits (I.instruction 0 false I.none (I.number false (m / 4)) ∷ []) [] t t' st r → Means m place t t' st r
-  unfolding expr_code of_expr expr_labels
-  value-3 q f = record { by = λ strings h w e. rw (means-manifest w e q) (emits-did _ f (λ n. refl)) }
-
-  pub value-0 : m ≡ 0 → Faulted place 8 st r → t' ≡ t → Means m place t t' st r
-  value-0 q f et = record { by = λ strings h w e. rw (means-unknown w e q, et) (f.by _ t) }
-
-  pub value-4 : (m % 4 ≡ 1 → ⊥) → (m % 4 ≡ 2 → ⊥) → (m % 4 ≡ 3 → ⊥) → (m ≡ 0 → ⊥) → Emits (G.to 0 (m / 4) ∷ []) [] t t' st r → Means m place t t' st r
-  unfolding expr_code of_expr expr_labels
-  value-4 q1 q2 q3 q f = record {
-    by = λ strings h w e. let z : suc (m / 4 - 1) ≡ m / 4 = omega arith in rw (means-function w e q (omega arith)) (emits-did _ f (λ n. rw z));
+  value-local f = record {
+    by = λ strings h w e. let z : k ≡ (k * 4 + 1) / 4 = omega arith in
+        rw (means-local w e (omega arith)) (emits-did _ f (λ n. ap (λ (j : ℕ). one (I.instruction 0 true I.P (I.number false j))) (sym z)));
   }
+
+  pub value-global : Emits (I.instruction 0 true I.G (I.number false k) ∷ []) [] t t' st r → Means (k * 4 + 2) place t t' st r
+  unfolding expr_code of_expr expr_labels
+  value-global f = record {
+    by = λ strings h w e. let z : k ≡ (k * 4 + 2) / 4 = omega arith in
+        rw (means-global w e (omega arith)) (emits-did _ f (λ n. ap (λ (j : ℕ). one (I.instruction 0 true I.G (I.number false j))) (sym z)));
+  }
+
+  pub value-manifest : Emits (I.instruction 0 false I.none (I.number false k) ∷ []) [] t t' st r → Means (k * 4 + 3) place t t' st r
+  unfolding expr_code of_expr expr_labels
+  value-manifest f = record {
+    by = λ strings h w e. let z : k ≡ (k * 4 + 3) / 4 = omega arith in
+        rw (means-manifest w e (omega arith)) (emits-did _ f (λ n. ap (λ (j : ℕ). one (I.instruction 0 false I.none (I.number false j))) (sym z)));
+  }
+
+pub value-function : (place k : ℕ) {j : ℕ} {t t' : List ℕ} {st r : State} → j ≡ k + 1 → Emits (G.to 0 j ∷ []) [] t t' st r
+    → Means (k * 4 + 4) place t t' st r
+unfolding expr_code of_expr expr_labels
+value-function place k {j} q f = record {
+  by = λ strings h w e. let z : suc ((k * 4 + 4) / 4 - 1) ≡ j = omega arith in
+      rw (means-function w e (λ q. omega arith) (omega arith)) (emits-did _ f (λ n. rw z));
+}
+
+pub value-unknown : (place : ℕ) {t : List ℕ} {st r : State} → Faulted place 8 st r → Means 0 place t t st r
+value-unknown place {t} f = record { by = λ strings h w e. rw (means-unknown w e refl) (f.by _ t) }
 
 -- ---- places
 

@@ -4,11 +4,14 @@ use Rattle.laws.proofs.Basics.{length, get_or, set, take, drop, length-set, leng
 use Rattle.laws.proofs.Basics.{eqb}
 use Rattle.laws.proofs.Basics.{leb, arith, eq-eqb, ne_eqb, eqb-true, eqb-false, leb-true, leb-false, List·getD-eq-default}
 use Rattle.laws.proofs.Cases.{by_cases, either}
+use Rattle.std.specs.Prelude.{Option, Some}
 use native.Mathlib.Numerals.{unary_clauses}
 use lib.Pointwise.{pointwise}
 use Rattle.compiler.proofs.Language.{Name, Meaning, local, global, manifest, function, Found, unknown, known, Scope, opened, declared, lookup}
 use Rattle.compiler.proofs.Language.{in_block, same_bytes, same_name, FineName}
-use Rattle.compiler.specs.Scope.{named, name_at, packed, code, found, Worded, Shows, nothing, mark, name, Pushed, PushedName, Keeps}
+use Rattle.compiler.specs.declared.scope.Meaning as D
+use Rattle.compiler.specs.declared.scope.Meaning.TheVariants as M
+use Rattle.compiler.specs.Scope.{entry_of, code_of, named, name_at, packed, code, found, Worded, Shows, nothing, mark, name, Pushed, PushedName, Keeps}
 
 -- ---- spelling
 
@@ -104,6 +107,16 @@ code-not (local k) e = omega arith
 code-not (global k) e = omega arith
 code-not (manifest k) e = omega arith
 code-not (function k) e = omega arith
+
+-- what the code says of a name, by its kind
+pub code-some : {m : Option D.Meaning} {w v : D.Meaning} → m ≡ Some w → w ≡ v → code_of m ≡ entry_of v
+code-some e q = rw (e, q)
+
+pub entry-not : (w : D.Meaning) → entry_of w ≡ 0 → ⊥
+entry-not (M.Local k) e = omega arith
+entry-not (M.Global k) e = omega arith
+entry-not (M.Manifest k) e = omega arith
+entry-not (M.Function k) e = omega arith
 
 -- what a code means, by its remainder
 abbrev meant : (n remainder : ℕ) → Meaning

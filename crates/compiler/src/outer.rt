@@ -1,14 +1,14 @@
 // The outermost level: GLOBAL and MANIFEST, the names of a group of functions, and a function.
-ghost use Rattle.std.specs.Prelude.{◌≡◌, Bool, List, [], ◌∷◌, ℕ, suc, ◌+◌, ◌*◌, ◌-◌, ◌≤◌, ◌<◌, ◌^◌, length, get_or};
+ghost use Rattle.std.specs.Prelude.{◌≡◌, ◌≢◌, ◌%◌, MatchOption, Bool, List, [], ◌∷◌, ℕ, suc, ◌+◌, ◌*◌, ◌-◌, ◌≤◌, ◌<◌, ◌^◌, length, get_or};
 ghost use Rattle.language.specs.Fine.{FineName};
-ghost use Rattle.compiler.specs.Scope.{code, name_at};
+ghost use Rattle.compiler.specs.Scope.{code, name_at, entry_of, code_of};
 ghost use Rattle.compiler.specs.Walks.{ReadyE, GaveE};
 ghost use Rattle.compiler.specs.Commands.{ReadyC, GaveC};
 ghost use Rattle.compiler.specs.Items.{meaning, JudgesItem, Items, ReadyItems};
 ghost use Rattle.compiler.specs.Groups.{NameFaults, Enters, ReadyGroup, GroupNames, ReadyBody, GaveBody, ReadyF, GaveF, CountsFunctions};
 
 use crate::kinds::{EQUAL, GLOBAL, LET};
-use crate::scope::{entry, in_block, lookup, push, push_name};
+use crate::scope::{Meaning, entry, in_block, lookup, push, push_name};
 use crate::steps::{
     Here, Refused, State, Ways, again, blame, count, declare, judge, judge_most, mark, node_at,
     put, reached, word_of, wrong,
@@ -43,14 +43,14 @@ fn item_constant(
     judge(source, s, end, top)
 }
 
-fn meaning(global: bool, v: usize) -> usize
-    requires { v < 2 ^ 30 }
-    ensures { result ≡ code (meaning global v) }
+fn meaning(global: bool, v: usize) -> Meaning
+    ensures { entry_of result ≡ code (meaning global v) }
 {
     if global {
-        return v * 4 + 2;
+        Meaning::Global(v)
+    } else {
+        Meaning::Manifest(v)
     }
-    v * 4 + 3
 }
 
 // Items from `from` on, each known from its end on.
@@ -90,30 +90,61 @@ pub(crate) fn items(
 // ---- functions
 
 // 9 at a function's name: it is known and no global, or its global is taken.
-fn name_fault(table: &[u32], st: State, m: usize, place: usize) -> State
+fn name_fault(table: &[u32], st: State, m: Option<Meaning>, place: usize) -> State
     requires { (place < 2 ^ 32) × (length table.now ≡ 400) }
-    ensures { NameFaults table.now m place st result }
+    ensures { NameFaults table.now (code_of m) place st result }
 {
-    if m == 0 || m % 4 == 2 && entry(table, m / 4) == 0 {
-        return st;
+    match m {
+        None => st,
+        Some(Meaning::Global(n)) => {
+            if entry(table, n) == 0 {
+                return st;
+            }
+            wrong(st, place, Fault::NameTwice)
+        }
+        Some(Meaning::Local(_)) => wrong(st, place, Fault::NameTwice),
+        Some(Meaning::Manifest(_)) => wrong(st, place, Fault::NameTwice),
+        Some(Meaning::Function(_)) => wrong(st, place, Fault::NameTwice),
     }
-    wrong(st, place, Fault::NameTwice)
+}
+
+// The global that is meant, if it is one.
+fn global_in(m: Option<Meaning>) -> Option<usize>
+    ensures { MatchOption result (code_of m % 4 ≢ 2) (λ n. code_of m ≡ n * 4 + 2) }
+{
+    match m {
+        Some(Meaning::Global(n)) => Some(n),
+        None => None,
+        Some(Meaning::Local(_)) => None,
+        Some(Meaning::Manifest(_)) => None,
+        Some(Meaning::Function(_)) => None,
+    }
 }
 
 // A function's name: it starts in its global, or it is known from here on. The names' end.
-fn enter(s: &mut [u32], table: &mut [u32], top: usize, leaf: usize, m: usize, k: usize) -> usize
+fn enter(
+    s: &mut [u32],
+    table: &mut [u32],
+    top: usize,
+    leaf: usize,
+    m: Option<Meaning>,
+    k: usize,
+) -> usize
     requires { (top + 2 ≤ length s.old) × (leaf < 2 ^ 32) × (k < 2 ^ 29) × FineName (name_at s.old leaf) }
-    ensures { Enters s.old s.new table.old table.new top leaf m k result }
+    ensures { Enters s.old s.new table.old table.new top leaf (code_of m) k result }
 {
-    if m % 4 == 2 {
-        let n = m / 4;
-        if n < table.len() {
-            table[n] = (k + 1) as u32;
+    match global_in(m) {
+        Some(n) => {
+            if n < table.len() {
+                table[n] = (k + 1) as u32;
+            }
+            top
         }
-        return top;
+        None => {
+            push_name(s, top, leaf, Meaning::Function(k));
+            top + 2
+        }
     }
-    push_name(s, top, leaf, k * 4 + 4);
-    top + 2
 }
 
 // The names of a group, before any of its functions is walked.

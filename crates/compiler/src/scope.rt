@@ -3,7 +3,41 @@
 ghost use Rattle.std.specs.Prelude.{◌≡◌, Bool, ℕ, ◌+◌, ◌*◌, ◌-◌, ◌/◌, ◌%◌, ◌≤◌, ◌<◌, ◌^◌, length, get_or, take, drop};
 ghost use Rattle.language.specs.Names.{same_bytes, same_name};
 ghost use Rattle.language.specs.Fine.{FineName};
-ghost use Rattle.compiler.specs.Scope.{named, name_at, Looked, Told, Pushed, PushedName};
+ghost use Rattle.compiler.specs.Scope.{named, name_at, entry_of, code_of, Looked, Told, Pushed, PushedName};
+
+// What a name means: a local by its height, a global by its number, a manifest by its value, a function by its number from 0.
+#[derive(Clone, Copy)]
+pub enum Meaning {
+    Local(usize),
+    Global(usize),
+    Manifest(usize),
+    Function(usize),
+}
+
+// The same as it stands in lent scratch, as a number that is not 0.
+fn encode(m: Meaning) -> usize
+    requires { entry_of m < 2 ^ 32 }
+    ensures { result ≡ entry_of m }
+{
+    match m {
+        Meaning::Local(k) => k * 4 + 1,
+        Meaning::Global(n) => n * 4 + 2,
+        Meaning::Manifest(v) => v * 4 + 3,
+        Meaning::Function(k) => k * 4 + 4,
+    }
+}
+
+fn decode(n: usize) -> Meaning
+    requires { 0 < n }
+    ensures { entry_of result ≡ n }
+{
+    match n % 4 {
+        1 => Meaning::Local(n / 4),
+        2 => Meaning::Global(n / 4),
+        3 => Meaning::Manifest(n / 4),
+        _ => Meaning::Function(n / 4 - 1),
+    }
+}
 
 // An entry of scratch; past its end, 0.
 pub(crate) fn entry(s: &[u32], i: usize) -> usize
@@ -57,15 +91,14 @@ fn stacked(s: &[u32], i: usize) -> usize
     s[i] as usize
 }
 
-// What a leaf's name means, as the number that stands for it in lent scratch, and 0 if it is unknown (an enum in its place was tried, and the
-// proofs of five functions that take it did not close): blocks from the innermost out, and the names of each. Nested labelled loops are
-// the form that document 01 names.
-pub(crate) fn lookup(source: &[u8], s: &[u32], top: usize, leaf: usize) -> usize
+// What a leaf's name means, if it is known: blocks from the innermost out, and the names of each. Nested labelled loops, the form that
+// document 01 names.
+pub(crate) fn lookup(source: &[u8], s: &[u32], top: usize, leaf: usize) -> Option<Meaning>
     requires { leaf < 2 ^ 32 }
-    ensures { Looked source.now s.now top leaf result × (result < 2 ^ 32) }
+    ensures { Looked source.now s.now top leaf (code_of result) × (code_of result < 2 ^ 32) }
 {
     if s.len() < top {
-        return 0;
+        return None;
     }
     let width = entry(s, leaf + 1);
     let place = entry(s, leaf + 2);
@@ -74,7 +107,7 @@ pub(crate) fn lookup(source: &[u8], s: &[u32], top: usize, leaf: usize) -> usize
     'search: loop {
         loop {
             if at < 2 {
-                return 0;
+                return None;
             }
             at -= 2;
             if stacked(s, at + 1) == 0 {
@@ -85,16 +118,16 @@ pub(crate) fn lookup(source: &[u8], s: &[u32], top: usize, leaf: usize) -> usize
             }
         }
     }
-    stacked(s, at + 1)
+    Some(decode(stacked(s, at + 1)))
 }
 
-// What a leaf's name means in the innermost block itself, and 0 if it is not there.
-pub(crate) fn in_block(source: &[u8], s: &[u32], top: usize, leaf: usize) -> usize
+// What a leaf's name means in the innermost block itself, if it is there.
+pub(crate) fn in_block(source: &[u8], s: &[u32], top: usize, leaf: usize) -> Option<Meaning>
     requires { leaf < 2 ^ 32 }
-    ensures { Told source.now s.now top leaf result }
+    ensures { Told source.now s.now top leaf (code_of result) }
 {
     if s.len() < top {
-        return 0;
+        return None;
     }
     let width = entry(s, leaf + 1);
     let place = entry(s, leaf + 2);
@@ -105,13 +138,13 @@ pub(crate) fn in_block(source: &[u8], s: &[u32], top: usize, leaf: usize) -> usi
         at -= 2;
         let m = stacked(s, at + 1);
         if m == 0 {
-            return 0;
+            return None;
         }
         if spelt(source, stacked(s, at), place, width, last) {
-            return m;
+            return Some(decode(m));
         }
     }
-    0
+    None
 }
 
 // Puts two entries on the stack.
@@ -124,11 +157,11 @@ pub(crate) fn push(s: &mut [u32], top: usize, first: usize, second: usize)
 }
 
 // Puts a leaf's name on the stack, with what it means.
-pub(crate) fn push_name(s: &mut [u32], top: usize, leaf: usize, m: usize)
-    requires { (top + 2 ≤ length s.old) × (leaf < 2 ^ 32) × (m < 2 ^ 32) × FineName (name_at s.old leaf) }
-    ensures { PushedName s.old s.new top leaf m }
+pub(crate) fn push_name(s: &mut [u32], top: usize, leaf: usize, m: Meaning)
+    requires { (top + 2 ≤ length s.old) × (leaf < 2 ^ 32) × (entry_of m < 2 ^ 32) × FineName (name_at s.old leaf) }
+    ensures { PushedName s.old s.new top leaf (entry_of m) }
 {
     let width = entry(s, leaf + 1);
     let place = entry(s, leaf + 2);
-    push(s, top, place * 65536 + width, m);
+    push(s, top, place * 65536 + width, encode(m));
 }

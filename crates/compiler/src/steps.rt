@@ -1,6 +1,7 @@
 // The single steps of the walk: what was done so far and where it stands, nodes of the tree, items written, names and constants.
 ghost use Rattle.std.specs.Prelude.{◌≡◌, Bool, true, false, cond, eqb, List, [], ◌∷◌, ◌++◌, ℕ, ◌+◌, ◌*◌, ◌-◌, ◌≤◌, ◌<◌, ◌^◌, length, get_or};
 ghost use Rattle.text.specs.Faults.{number_of};
+ghost use Rattle.compiler.specs.Scope.{code_of};
 ghost use Rattle.items.specs.Item as I;
 ghost use Rattle.items.specs.Answers.{base_of};
 ghost use Rattle.code.specs.Generate as G;
@@ -21,7 +22,7 @@ use crate::kinds::{
     AMPERSAND, ATLEAST, ATMOST, BAR, BREAK, ENDCASE, EQUAL, LEFT, LESS, LOOP, MINUS, MORE, NAME,
     NUMBER, PLUS, REM, REPEATWHILE, RETURN, RIGHT, SLASH, STAR, UNEQUAL,
 };
-use crate::scope::{entry, in_block, lookup, push_name};
+use crate::scope::{Meaning, entry, in_block, lookup, push_name};
 use text::Fault;
 use writing::{Base, instruction, label, labelled};
 
@@ -174,20 +175,16 @@ pub(crate) fn keep(text: &mut [u8], st: State, h: usize) -> State
 }
 
 // The value of a name, by what it means; 8 if it is unknown.
-pub(crate) fn value(text: &mut [u8], st: State, m: usize, place: usize) -> State
-    requires { place < 2 ^ 32 }
-    ensures { Means m place text.old text.new st result }
+pub(crate) fn value(text: &mut [u8], st: State, m: Option<Meaning>, place: usize) -> State
+    requires { (place < 2 ^ 32) × (code_of m < 2 ^ 32) }
+    ensures { Means (code_of m) place text.old text.new st result }
 {
-    match m % 4 {
-        1 => put(text, st, 0, true, Base::P, m / 4),
-        2 => put(text, st, 0, true, Base::G, m / 4),
-        3 => put(text, st, 0, false, Base::Plain, m / 4),
-        _ => {
-            if m == 0 {
-                return wrong(st, place, Fault::UnknownName);
-            }
-            put_to(text, st, 0, m / 4)
-        }
+    match m {
+        None => wrong(st, place, Fault::UnknownName),
+        Some(Meaning::Local(k)) => put(text, st, 0, true, Base::P, k),
+        Some(Meaning::Global(n)) => put(text, st, 0, true, Base::G, n),
+        Some(Meaning::Manifest(v)) => put(text, st, 0, false, Base::Plain, v),
+        Some(Meaning::Function(k)) => put_to(text, st, 0, k + 1),
     }
 }
 
@@ -377,14 +374,14 @@ pub(crate) fn in_switch(ways: Ways, end: usize) -> Ways
 }
 
 // 9 at a name that means something in its block already.
-pub(crate) fn again(st: State, m: usize, place: usize) -> State
+pub(crate) fn again(st: State, m: Option<Meaning>, place: usize) -> State
     requires { place < 2 ^ 32 }
-    ensures { Again m place st result }
+    ensures { Again (code_of m) place st result }
 {
-    if m == 0 {
-        return st;
+    match m {
+        None => st,
+        Some(_) => wrong(st, place, Fault::NameTwice),
     }
-    wrong(st, place, Fault::NameTwice)
 }
 
 // Names, by their leaves, declared one after another at frame words from the height on.
@@ -406,7 +403,7 @@ pub(crate) fn declare(
         let m = in_block(source, s, top + 2 * k, at);
         let place = entry(s, at + 2);
         r = again(r, m, place);
-        push_name(s, top + 2 * k, at, (height + k) * 4 + 1);
+        push_name(s, top + 2 * k, at, Meaning::Local(height + k));
     }
     r
 }
@@ -417,24 +414,23 @@ pub(crate) fn name_word(
     text: &mut [u8],
     st: State,
     function: usize,
-    m: usize,
+    m: Option<Meaning>,
     name: usize,
     place: usize,
 ) -> State
     requires { (name < 2 ^ 32) × (place < 2 ^ 32) }
-    ensures { (function ≡ 0 → AddressOf m name place text.old text.new st result)
-        × (function ≡ 1 → StoreTo m name place text.old text.new st result) }
+    ensures { (function ≡ 0 → AddressOf (code_of m) name place text.old text.new st result)
+        × (function ≡ 1 → StoreTo (code_of m) name place text.old text.new st result) }
 {
-    match m % 4 {
-        1 => put(text, st, function, false, Base::P, m / 4),
-        2 => put(text, st, function, false, Base::G, m / 4),
-        _ => {
-            if m == 0 {
-                let a = wrong(st, name, Fault::UnknownName);
-                return wrong(a, place, Fault::NoPlace);
-            }
-            wrong(st, place, Fault::NoPlace)
+    match m {
+        None => {
+            let a = wrong(st, name, Fault::UnknownName);
+            wrong(a, place, Fault::NoPlace)
         }
+        Some(Meaning::Local(k)) => put(text, st, function, false, Base::P, k),
+        Some(Meaning::Global(n)) => put(text, st, function, false, Base::G, n),
+        Some(Meaning::Manifest(_)) => wrong(st, place, Fault::NoPlace),
+        Some(Meaning::Function(_)) => wrong(st, place, Fault::NoPlace),
     }
 }
 
@@ -459,30 +455,30 @@ pub(crate) fn store_indexed(text: &mut [u8], st: State, h: usize) -> State
 
 // What a name means, as a constant: `name` and `place` are the places of the name and of the constant.
 pub(crate) fn named_constant(
-    m: usize,
+    m: Option<Meaning>,
     minus: bool,
     name: usize,
     place: usize,
 ) -> Result<usize, Refused>
-    requires { (name < 2 ^ 32) × (place < 2 ^ 32) × (m < 2 ^ 32) }
-    ensures { NamedConstant m minus name place result }
+    requires { (name < 2 ^ 32) × (place < 2 ^ 32) × (code_of m < 2 ^ 32) }
+    ensures { NamedConstant (code_of m) minus name place result }
 {
-    if m == 0 {
-        return Err(Refused {
-            place: name,
-            fault: Fault::UnknownName,
-        });
-    }
-    if m % 4 == 3 {
-        return Ok(signed(minus, m / 4));
-    }
-    Err(Refused {
+    let other = Refused {
         place,
         fault: Fault::Constant,
-    })
+    };
+    match m {
+        None => Err(Refused {
+            place: name,
+            fault: Fault::UnknownName,
+        }),
+        Some(Meaning::Manifest(v)) => Ok(signed(minus, v)),
+        Some(Meaning::Local(_)) => Err(other),
+        Some(Meaning::Global(_)) => Err(other),
+        Some(Meaning::Function(_)) => Err(other),
+    }
 }
 
-#[tactic(auto, using(crate::proofs::Judging::signed_minus))]
 pub(crate) fn signed(negative: bool, v: usize) -> usize
     ensures { result ≡ signed negative v }
 {

@@ -24,7 +24,7 @@ use crate::kinds::{
     PLING, REPEATED, RESULTIS, STRING, SUFFIXED, SWITCHON, TEST, UNLESS, UNTIL, VALOF, VEC, WHILE,
 };
 use crate::labels::{by_constant, doubled, misplaced, table};
-use crate::scope::{entry, lookup, push, push_name};
+use crate::scope::{Meaning, entry, lookup, push, push_name};
 use crate::steps::{
     Here, Placed, State, Ways, act_of, away, blame, count, declare, for_step, for_test, fresh,
     in_loop, in_switch, in_valof, index_end, inside, jump_unless, jump_when, keep, leave, mark,
@@ -794,7 +794,7 @@ fn for_to(
     let step = word_of(by);
     let g = for_test(text, f, here.height, step, st.label);
     push(s, here.top, 0, 0);
-    push_name(s, here.top + 2, n.start, here.height * 4 + 1);
+    push_name(s, here.top + 2, n.start, Meaning::Local(here.height));
     let inner = set_at(here, here.top + 4, here.height + 2);
     let h = command(
         source,

@@ -25,8 +25,7 @@ items_spec = tie.close (tie.spec invariant-loop decreases-loop (λ c. (refl, λ 
     (λ c. omega (arith, fit (search))) (λ c. omega arith) (λ c κs. omega (arith, fit (search))) (λ c. omega arith) (search needs) (search needs)
     (λ c _. c.entry-place.ensures.1) (λ c. omega (arith, fit (search))) (λ c. omega (arith, fit (search))) (λ c. omega (arith, fit (search)))
     (search needs)
-    -- meaning-requires
-    (λ c κs. rw c.word_of.ensures c.item_constant-c.ensures.low)
+    (search needs)
     -- push-name-requires
     (λ c κs. let w = fit (search) in
     let v = code-small c.args.global c.word_of.result (rw c.word_of.ensures c.item_constant-c.ensures.low) in (omega arith, omega arith, omega arith, w.name))

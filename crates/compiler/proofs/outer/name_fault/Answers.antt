@@ -1,20 +1,25 @@
-use Rattle.laws.proofs.Basics.{sym, ◌∙◌, eqb-true, eqb-false}
+use Rattle.laws.proofs.Basics.{ℕ, ap, get_or, refl, ◌∙◌, ◌/◌, arith}
+use Rattle.compiler.proofs.Scoping.{code-some}
 use Rattle.compiler.proofs.GroupLaws.{fault-unknown, fault-free, fault-so}
 use Rattle.compiler.proofs.outer.name_fault.Goals as goal
-use goal.{then-m-eq0-via-then-m-eq0, then-m-eq0-via-else-m-eq0+then-entry-eq0, then-m-eq2, else-m-eq2}
 
-pub returns-then-m-eq0 : goal.returns-then-m-eq0
-returns-then-m-eq0 c = elim c.then-m-eq0.branch [
-  | then-m-eq0-via-then-m-eq0 w ↦ fault-unknown w.if-m-eq0.true
-  | then-m-eq0-via-else-m-eq0+then-entry-eq0 w ↦ elim w.if-m-eq2.branch [
-    | then-m-eq2 v ↦ fault-free v.if-m-eq2.true w.if-m-eq0.false v.entry.ensures.0 (eqb-true _ 0 (sym v.value-is ∙ w.if-entry-eq0.true))
-    | else-m-eq2 v ↦ absurd (v.if-m-eq2.false (eqb-true _ 2 (sym v.value-is ∙ w.if-entry-eq0.true)))
-  ]
-]
+pub returns-in-None : goal.returns-in-None
+returns-in-None c = rw c.in-None.is (fault-unknown refl)
 
-pub returns : goal.returns
-returns c = elim c.if-m-eq2.branch [
-  | then-m-eq2 w ↦ fault-so c.if-m-eq0.false
-      (λ a b. eqb-false _ 0 (sym w.value-is ∙ c.if-entry-eq0.false) (w.entry.ensures.0 ∙ b)) c.wrong.ensures
-  | else-m-eq2 w ↦ fault-so c.if-m-eq0.false (λ a b. w.if-m-eq2.false a) c.wrong.ensures
-]
+pub returns-then-entry-eq0 : goal.returns-then-entry-eq0
+returns-then-entry-eq0 c = let q = code-some c.in-Some-Global.is (rw c.in-Some-Global.is at c.in-Some-Global.field-0-is) in
+    fault-free (omega (arith, q)) (λ z. omega (arith, q)) (c.entry.ensures.0 ∙ ap (λ (i : ℕ). get_or c.args.table.now i 0) (omega (arith, q)))
+    c.if-entry-eq0.true
+
+pub returns-else-entry-eq0 : goal.returns-else-entry-eq0
+returns-else-entry-eq0 c = let q = code-some c.in-Some-Global.is (rw c.in-Some-Global.is at c.in-Some-Global.field-0-is) in fault-so (λ z. omega (arith, q))
+    (λ a b. c.if-entry-eq0.false (c.entry.ensures.0 ∙ ap (λ (i : ℕ). get_or c.args.table.now i 0) (omega (arith, q)) ∙ b)) c.wrong.ensures
+
+pub returns-in-Some-Local : goal.returns-in-Some-Local
+returns-in-Some-Local c = let q = code-some c.in-Some-Local.is (rw c.in-Some-Local.is at c.in-Some-Local.field-0-is) in fault-so (λ z. omega (arith, q)) (λ a b. absurd (omega (arith, q))) (search)
+
+pub returns-in-Some-Manifest : goal.returns-in-Some-Manifest
+returns-in-Some-Manifest c = let q = code-some c.in-Some-Manifest.is (rw c.in-Some-Manifest.is at c.in-Some-Manifest.field-0-is) in fault-so (λ z. omega (arith, q)) (λ a b. absurd (omega (arith, q))) (search)
+
+pub returns-in-Some-Function : goal.returns-in-Some-Function
+returns-in-Some-Function c = let q = code-some c.in-Some-Function.is (rw c.in-Some-Function.is at c.in-Some-Function.field-0-is) in fault-so (λ z. omega (arith, q)) (λ a b. absurd (omega (arith, q))) (search)

@@ -92,7 +92,6 @@ for-to-ok t = cycle.Lts-for_to.spec (for-to-cs t) (at for-to t) (rank for-to).po
     let k = h.expr-d.auto in
     let l = h.expr-b.auto in (omega (arith, for-to-room t h), omega arith, omega arith))
     (λ c. let h : ForToTested t = search in let y = h.requires.1.0 in omega (arith, for-to-room t h))
-    (λ c. let y = c.requires.1.0 in omega arith) (λ c. let y = c.requires.1.0 in omega arith)
     -- push-name-requires
     (λ c κs. let h : ForToTested t = search in let y = h.requires.1.0 in
     let k = h.expr-d.auto in
