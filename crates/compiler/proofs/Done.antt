@@ -1,5 +1,5 @@
 -- Laws of what is done: faults, items, heights and labels, one after another.
-use Rattle.laws.proofs.Basics.{ℕ, suc, ◌+◌, ◌-◌, ◌*◌, ◌/◌, ◌%◌, ◌^◌, ◌<◌, ◌≤◌, min, max, ◌≡◌, refl, sym, ap, ◌∙◌, List, [], ◌∷◌, ◌++◌, append-nil, true}
+use Rattle.laws.proofs.Basics.{ℕ, suc, ◌+◌, ◌-◌, ◌*◌, ◌/◌, ◌^◌, ◌<◌, ◌≤◌, min, max, ◌≡◌, refl, sym, ap, ◌∙◌, List, [], ◌∷◌, ◌++◌, append-nil, true}
 use Rattle.laws.proofs.Basics.{false, cond, length, get_or, ltb, add-zero, arith, eq-eqb, ne_eqb, ltb-true, ltb-false}
 use Rattle.laws.proofs.Cases.{by_cases}
 use Rattle.items.specs.Item as I

@@ -1,5 +1,5 @@
 -- Monadic operators, what @ may take, and left sides.
-use Rattle.laws.proofs.Basics.{ℕ, ◌+◌, ◌-◌, ◌*◌, ◌/◌, ◌%◌, ◌<◌, ◌≤◌, ◌≡◌, refl, sym, ap, subst, ◌∙◌, List, [], ◌∷◌, ◌++◌, append_assoc, append-nil}
+use Rattle.laws.proofs.Basics.{ℕ, ◌+◌, ◌-◌, ◌*◌, ◌%◌, ◌<◌, ◌≤◌, ◌≡◌, refl, sym, ap, subst, ◌∙◌, List, [], ◌∷◌, ◌++◌, append_assoc, append-nil}
 use Rattle.laws.proofs.Basics.{Bool, true, false, cond, length, get_or, length-append, eqb, ltb, arith, ne_eqb, ltb-true, ltb-false}
 use Rattle.laws.proofs.Cases.{by_cases, contradiction}
 use Rattle.items.specs.Item as I

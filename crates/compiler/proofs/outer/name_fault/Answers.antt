@@ -1,4 +1,4 @@
-use Rattle.laws.proofs.Basics.{ℕ, ap, get_or, refl, ◌∙◌, ◌/◌, arith}
+use Rattle.laws.proofs.Basics.{ℕ, ap, get_or, refl, ◌∙◌, arith}
 use Rattle.compiler.proofs.Scoping.{code-some}
 use Rattle.compiler.proofs.GroupLaws.{fault-unknown, fault-free, fault-so}
 use Rattle.compiler.proofs.outer.name_fault.Goals as goal

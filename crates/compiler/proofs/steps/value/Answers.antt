@@ -1,4 +1,4 @@
-use Rattle.laws.proofs.Basics.{refl, arith}
+use Rattle.laws.proofs.Basics.{refl}
 use Rattle.compiler.proofs.Scoping.{code-some}
 use Rattle.compiler.proofs.Done.{value-unknown, value-local, value-global, value-manifest, value-function}
 use Rattle.compiler.proofs.steps.value.Goals as goal
