@@ -6,6 +6,7 @@ ghost use Rattle.language.specs.Fine.{FineName};
 ghost use Rattle.compiler.specs.Scope.{named, name_at, entry_of, code_of, Looked, Told, Pushed, PushedName};
 
 // What a name means: a local by its height, a global by its number, a manifest by its value, a function by its number from 0.
+// Where several kinds are treated alike each has an arm of its own: in one arm for several, the proof is not told which they are.
 #[derive(Clone, Copy)]
 pub enum Meaning {
     Local(usize),
