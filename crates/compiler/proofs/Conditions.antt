@@ -1,6 +1,7 @@
 -- TEST, WHILE and UNTIL.
 use Rattle.laws.proofs.Basics.{ℕ, ◌+◌, ◌-◌, ◌<◌, ◌≤◌, ◌≡◌, refl, sym, ap, subst, ◌∙◌, List, [], ◌∷◌, ◌++◌, append_assoc, cond, length, get_or}
 use Rattle.laws.proofs.Basics.{length-append, eqb, arith, ne_eqb}
+use Rattle.laws.proofs.Cases.{by_equal}
 use Rattle.items.specs.Item as I
 use Rattle.language.specs.Kinds as K
 use Rattle.language.specs.Tree as T
@@ -150,8 +151,11 @@ module _ {s : List ℕ} {end : ℕ} {here : Here} {st : State} (n b : Node) (nd 
             };
       }
 
-pub while-while : {s : List ℕ} {end : ℕ} (n : Node) → NodeAt s end n → n.kind ≡ K.WHILE → WhileKind s end
+while-while : {s : List ℕ} {end : ℕ} (n : Node) → NodeAt s end n → n.kind ≡ K.WHILE → WhileKind s end
 while-while n nd q = record { word = subst WhileWord (sym q ∙ nd.kind) a_while }
 
-pub while-until : {s : List ℕ} {end : ℕ} (n : Node) → NodeAt s end n → n.kind ≡ K.UNTIL → WhileKind s end
+while-until : {s : List ℕ} {end : ℕ} (n : Node) → NodeAt s end n → n.kind ≡ K.UNTIL → WhileKind s end
 while-until n nd q = record { word = subst WhileWord (sym q ∙ nd.kind) an_until }
+
+pub while-guards : {s : List ℕ} {end : ℕ} (n : Node) → NodeAt s end n → 18 ≤ n.kind → n.kind < 20 → WhileKind s end
+while-guards n nd a b = by_equal n.kind 18 (λ e. while-while n nd e) (λ e. while-until n nd (omega arith))

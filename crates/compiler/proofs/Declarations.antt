@@ -61,24 +61,24 @@ is-names {s} {at} (n ∷ ns) h e l = record {
   ends = omega arith;
 }
 
-no_names : {at end : ℕ} (ns : List Name) → end ≡ at + length (encode_names ns) → end ≤ at → ns ≡ []
+no_names : (at : ℕ) {end : ℕ} (ns : List Name) → end ≡ at + length (encode_names ns) → end < at + 4 → ns ≡ []
 unfolding encode_names encode_name
-no_names [] e l = refl
-no_names (n ∷ ns) e l = absurd (omega arith)
+no_names at [] e l = refl
+no_names at (n ∷ ns) e l = absurd (omega arith)
 
 module _ (text : List ℕ) {s₀ : List ℕ} {from end top height : ℕ} {st₀ : State} where
-  pub names-next : {s s₁ : List ℕ} {at m place x : ℕ} (k : ℕ) {st r : State} → at < end → Told text s (top + 2 * k) at m → place ≡ get_or s (at + 2) 0
+  pub names-next : {s s₁ : List ℕ} {at at' m place x : ℕ} (k : ℕ) {st r : State} → at < end → at' ≡ at + 4 → Told text s (top + 2 * k) at m → place ≡ get_or s (at + 2) 0
       → Again m place st r → PushedName s s₁ (top + 2 * k) at x → x ≡ (height + k) * 4 + 1
-      → (y : ReadyNames s₀ from end top height) → NamesPart text st₀ y s at k st → NamesPart text st₀ y s₁ (at + 4) (k + 1) r
+      → (y : ReadyNames s₀ from end top height) → NamesPart text st₀ y s at k st → NamesPart text st₀ y s₁ at' (k + 1) r
   unfolding declare_all twice code FineNames
-  names-next {s} {s₁} {at} k {st} {r} l told ep ag pu ex y p = let u = is-names p.left.rest p.left.lies p.left.ends l in
+  names-next {s} {s₁} {at} k {st} {r} l ea told ep ag pu ex y p = let u = is-names p.left.rest p.left.lies p.left.ends l in
       let n : name_at s at ≡ u.name = keeps-name p.left.keeps (omega arith) ∙ u.is in
       let c : k + 1 + length u.more ≡ length y.names = omega (arith, ap length u.same) in let rm : top + 2 * k + 2 ≤ y.base = omega arith in
       let lg : y.base ≤ length s = omega arith in let w = N.local (height + k) in let hk : height + (k + 1) ≡ height + k + 1 = omega arith in
       let tk : top + 2 * k + 2 ≡ top + 2 * (k + 1) = omega arith in let sc = p.scope in
       let kept : Keeps y.base top s s₁ = keeps-lower (omega arith) (pushed-keeps pu.pushed rm lg) in let sc' = declared sc u.name w in
       record {
-        left = record { rest = u.more; lies = u.lies_more; ends = u.ends; above = omega arith; keeps = keeps_then p.left.keeps kept };
+        left = record { rest = u.more; lies = rw ea u.lies_more; ends = rw ea u.ends; above = omega arith; keeps = keeps_then p.left.keeps kept };
         scope = sc';
         shows = rw tk at (rw n at (pushed-name pu rm lg w p.shows ex tt));
         many = c;
@@ -89,11 +89,11 @@ module _ (text : List ℕ) {s₀ : List ℕ} {from end top height : ℕ} {st₀ 
             (rw hk at d)) same_refl (λ v e. refl) (omega arith)));
       }
 
-  pub names-end : {s : List ℕ} {at : ℕ} (k : ℕ) {st : State} → end ≤ at → ((y : ReadyNames s₀ from end top height) → NamesPart text st₀ y s at k st)
+  pub names-end : {s : List ℕ} {at : ℕ} (k : ℕ) {st : State} → end < at + 4 → ((y : ReadyNames s₀ from end top height) → NamesPart text st₀ y s at k st)
       → Declares text s₀ s from end top height st₀ st
   unfolding declare_all twice encode_names
   names-end {s} {at} k {st} l q = record {
-    by = λ y. let p = q y in let e = no_names p.left.rest p.left.ends l in let c : top + 2 * k ≡ top + 2 * length y.names
+    by = λ y. let p = q y in let e = no_names at p.left.rest p.left.ends l in let c : top + 2 * k ≡ top + 2 * length y.names
         = omega (arith, ap length e) in record {
           shows = rw c at (rw (← (p.same ∙ ap (declare_all p.scope (height + k)) e)) at p.shows);
           keeps = p.left.keeps;

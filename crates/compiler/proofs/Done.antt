@@ -1,6 +1,6 @@
 -- Laws of what is done: faults, items, heights and labels, one after another.
-use Rattle.laws.proofs.Basics.{ℕ, suc, ◌+◌, ◌-◌, ◌*◌, ◌/◌, ◌%◌, ◌^◌, ◌<◌, ◌≤◌, min, ◌≡◌, refl, sym, ap, ◌∙◌, List, [], ◌∷◌, ◌++◌, append-nil, true}
-use Rattle.laws.proofs.Basics.{false, cond, length, get_or, ltb, add-zero, arith, eq-eqb, ne_eqb, ltb-true, ltb-false, lt-ltb, le-ltb}
+use Rattle.laws.proofs.Basics.{ℕ, suc, ◌+◌, ◌-◌, ◌*◌, ◌/◌, ◌^◌, ◌<◌, ◌≤◌, min, max, ◌≡◌, refl, sym, ap, ◌∙◌, List, [], ◌∷◌, ◌++◌, append-nil, true}
+use Rattle.laws.proofs.Basics.{false, cond, length, get_or, ltb, add-zero, arith, eq-eqb, ne_eqb, ltb-true, ltb-false}
 use Rattle.laws.proofs.Cases.{by_cases}
 use Rattle.items.specs.Item as I
 use Rattle.compiler.proofs.Language.{Fault, fault, of_expr, greatest}
@@ -51,40 +51,37 @@ fit-right (f ∷ a) b (and_fit p n r) = fit-right a b r
 
 -- ---- one item; a height; a fault
 
-module _ {st r : State} (high : r.high ≡ st.high) (worst : r.worst ≡ st.worst) (label : r.label ≡ st.label) where
-  pub emits_one : {i : I.Item} {t t' : List ℕ} → Appends (line i) st.at r.at t t' → Emits (i ∷ []) [] t t' st r
-  unfolding lines greatest
-  emits_one {i} p = record { text = appends-as p (append-nil (line i)); high = high; worst = worst; label = label }
+pub emits_one : {st : State} {i : I.Item} {at : ℕ} {t t' : List ℕ} → Appends (line i) st.at at t t'
+    → Emits (i ∷ []) [] t t' st (record { at = at; label = st.label; worst = st.worst; high = st.high })
+unfolding lines greatest
+emits_one {i = i} p = record { text = appends-as p (append-nil (line i)); high = refl; worst = refl; label = refl }
 
-still : {m n : ℕ} → n ≡ m → (t : List ℕ) → Appends [] m n t t
-still e t = rw e appends-none
+step-max : (h x : ℕ) → max x h ≡ cond (ltb x h) h x
+step-max h x = by_cases (ltb x h) (λ e. let l = ltb-true x h e in rw e (omega arith)) (λ e. let l = ltb-false x h e in rw e (omega arith))
 
-module _ {h : ℕ} {st r : State} (at : r.at ≡ st.at) (worst : r.worst ≡ st.worst) (label : r.label ≡ st.label) where
-  pub reached-up : st.high < h → r.high ≡ h → Reached h st r
-  unfolding lines greatest
-  reached-up l e = record { by = λ t. record { text = still at t; high = e ∙ rw (lt-ltb st.high h l); worst = worst; label = label } }
-
-  pub reached-low : h ≤ st.high → r.high ≡ st.high → Reached h st r
-  unfolding lines greatest
-  reached-low l e = record { by = λ t. record { text = still at t; high = e ∙ rw (le-ltb st.high h l); worst = worst; label = label } }
+pub reached_max : {h high : ℕ} {st : State} → high ≡ max st.high h
+    → Reached h st (record { at = st.at; label = st.label; worst = st.worst; high = high })
+unfolding lines greatest
+reached_max {h} {st = st} e = record { by = λ t. record { text = appends-none; high = e ∙ step-max h st.high; worst = refl; label = refl } }
 
 fault-not : {place number : ℕ} → fault place number ≡ [] → ⊥
 fault-not {place} {number} e = let z : length (fault place number) ≡ 0 = ap length e in omega arith
 
-module _ {place number : ℕ} {st r : State} (fits : (place < 2 ^ 32) × (number < 32)) (label : r.label ≡ st.label) where
-  faulted : r.worst ≡ least st.worst (fault place number) → Faulted place number st r
-  faulted e = record {
-    by = λ code t. record
-        { worst = e; fits = fault-fits fits; few = omega arith; grows = omega arith; clean = λ n. absurd (fault-not n) };
-  }
+pub step-min : (k x : ℕ) → cond (ltb k x) k x ≡ min x k
+step-min k x = by_cases (ltb k x) (λ e. let l = ltb-true k x e in rw e (omega arith)) (λ e. let l = ltb-false k x e in rw e (omega arith))
 
-  pub faulted-new : place * 32 + number < st.worst → r.worst ≡ place * 32 + number → Faulted place number st r
-  unfolding least
-  faulted-new l e = faulted (e ∙ rw (lt-ltb (place * 32 + number) st.worst l))
-
-  pub faulted-old : st.worst ≤ place * 32 + number → r.worst ≡ st.worst → Faulted place number st r
-  unfolding least
-  faulted-old l e = faulted (e ∙ rw (le-ltb (place * 32 + number) st.worst l))
+pub faulted_least : {place number n worst : ℕ} {st : State} → (place < 2 ^ 32) × (number < 32) → n ≡ number → worst ≡ min st.worst (place * 32 + n)
+    → Faulted place number st (record { at = st.at; label = st.label; worst = worst; high = st.high })
+unfolding least
+faulted_least {place} {number} {st = st} fits en e = record {
+  by = λ code t. record {
+    worst = e ∙ rw en (sym (step-min (place * 32 + number) st.worst));
+    fits = fault-fits fits;
+    few = omega arith;
+    grows = omega arith;
+    clean = λ n. absurd (fault-not n);
+  };
+}
 
 -- ---- one after another
 
@@ -149,9 +146,6 @@ same_refl = record { least = λ x. refl; none = λ e. e; fits = λ f. f }
 
 pub same-eq : {a b : List Fault} → a ≡ b → Same a b
 same-eq e = rw (← e) same_refl
-
-step-min : (k x : ℕ) → cond (ltb k x) k x ≡ min x k
-step-min k x = by_cases (ltb k x) (λ e. let l = ltb-true k x e in rw e (omega arith)) (λ e. let l = ltb-false k x e in rw e (omega arith))
 
 least-min : (x k : ℕ) (a : List Fault) → least (min x k) a ≡ min (least x a) k
 unfolding least
@@ -237,34 +231,48 @@ leaves_jump {to} e f = record { did = rw (ne_eqb to 0 e) (emits-did _ f (λ n. r
 
 -- ---- the value of a name
 
-module _ (place : ℕ) {m : ℕ} {t t' : List ℕ} {st r : State} where
-  pub value-1 : m % 4 ≡ 1 → Emits (I.instruction 0 true I.P (I.number false (m / 4)) ∷ []) [] t t' st r → Means m place t t' st r
-  unfolding expr_code of_expr expr_labels
-  value-1 q f = record { by = λ strings h w e. rw (means-local w e q) (emits-did _ f (λ n. refl)) }
+abbrev one : I.Item → Code
+one i = record { items = i ∷ []; heights = []; labels = 0 }
 
-  pub value-2 : m % 4 ≡ 2 → Emits (I.instruction 0 true I.G (I.number false (m / 4)) ∷ []) [] t t' st r → Means m place t t' st r
+module _ (place : ℕ) {k : ℕ} {t t' : List ℕ} {st r : State} where
+  pub value-local : Emits (I.instruction 0 true I.P (I.number false k) ∷ []) [] t t' st r → Means (k * 4 + 1) place t t' st r
   unfolding expr_code of_expr expr_labels
-  value-2 q f = record { by = λ strings h w e. rw (means-global w e q) (emits-did _ f (λ n. refl)) }
-
-  pub value-3 : m % 4 ≡ 3 → Emits (I.instruction 0 false I.none (I.number false (m / 4)) ∷ []) [] t t' st r → Means m place t t' st r
-  unfolding expr_code of_expr expr_labels
-  value-3 q f = record { by = λ strings h w e. rw (means-manifest w e q) (emits-did _ f (λ n. refl)) }
-
-  pub value-0 : m ≡ 0 → Faulted place 8 st r → t' ≡ t → Means m place t t' st r
-  value-0 q f et = record { by = λ strings h w e. rw (means-unknown w e q, et) (f.by _ t) }
-
-  pub value-4 : (m % 4 ≡ 1 → ⊥) → (m % 4 ≡ 2 → ⊥) → (m % 4 ≡ 3 → ⊥) → (m ≡ 0 → ⊥) → Emits (G.to 0 (m / 4) ∷ []) [] t t' st r → Means m place t t' st r
-  unfolding expr_code of_expr expr_labels
-  value-4 q1 q2 q3 q f = record {
-    by = λ strings h w e. let z : suc (m / 4 - 1) ≡ m / 4 = omega arith in rw (means-function w e q (omega arith)) (emits-did _ f (λ n. rw z));
+  value-local f = record {
+    by = λ strings h w e. let z : k ≡ (k * 4 + 1) / 4 = omega arith in
+        rw (means-local w e (omega arith)) (emits-did _ f (λ n. ap (λ (j : ℕ). one (I.instruction 0 true I.P (I.number false j))) (sym z)));
   }
+
+  pub value-global : Emits (I.instruction 0 true I.G (I.number false k) ∷ []) [] t t' st r → Means (k * 4 + 2) place t t' st r
+  unfolding expr_code of_expr expr_labels
+  value-global f = record {
+    by = λ strings h w e. let z : k ≡ (k * 4 + 2) / 4 = omega arith in
+        rw (means-global w e (omega arith)) (emits-did _ f (λ n. ap (λ (j : ℕ). one (I.instruction 0 true I.G (I.number false j))) (sym z)));
+  }
+
+  pub value-manifest : Emits (I.instruction 0 false I.none (I.number false k) ∷ []) [] t t' st r → Means (k * 4 + 3) place t t' st r
+  unfolding expr_code of_expr expr_labels
+  value-manifest f = record {
+    by = λ strings h w e. let z : k ≡ (k * 4 + 3) / 4 = omega arith in
+        rw (means-manifest w e (omega arith)) (emits-did _ f (λ n. ap (λ (j : ℕ). one (I.instruction 0 false I.none (I.number false j))) (sym z)));
+  }
+
+pub value-function : (place k : ℕ) {j : ℕ} {t t' : List ℕ} {st r : State} → j ≡ k + 1 → Emits (G.to 0 j ∷ []) [] t t' st r
+    → Means (k * 4 + 4) place t t' st r
+unfolding expr_code of_expr expr_labels
+value-function place k {j} q f = record {
+  by = λ strings h w e. let z : suc ((k * 4 + 4) / 4 - 1) ≡ j = omega arith in
+      rw (means-function w e (λ q. omega arith) (omega arith)) (emits-did _ f (λ n. rw z));
+}
+
+pub value-unknown : (place : ℕ) {t : List ℕ} {st r : State} → Faulted place 8 st r → Means 0 place t t st r
+value-unknown place {t} f = record { by = λ strings h w e. rw (means-unknown w e refl) (f.by _ t) }
 
 -- ---- places
 
-pub node-is : {s : List ℕ} {end : ℕ} (n : Node) {size e₃ e₂ e₁ : ℕ} → n.inner ≡ end - 4 → size ≡ get_or s n.inner 0 → n.start ≡ n.inner - size
+pub node_is : {s : List ℕ} {end : ℕ} (n : Node) {size e₃ e₂ e₁ : ℕ} → n.inner ≡ end - 4 → size ≡ get_or s n.inner 0 → n.start ≡ n.inner - size
     → e₃ ≡ end - 3 → n.value ≡ get_or s e₃ 0 → e₂ ≡ end - 2 → n.place ≡ get_or s e₂ 0 → e₁ ≡ end - 1 → n.kind ≡ get_or s e₁ 0 → n.value < 2 ^ 32
     → n.place < 2 ^ 32 → NodeAt s end n
-node-is n {size} i z st a v b p c k fv fp = record {
+node_is n {size} i z st a v b p c k fv fp = record {
   value_fits = fv;
   place_fits = fp;
   inner = i;

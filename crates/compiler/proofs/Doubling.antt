@@ -1,13 +1,14 @@
 -- The labels of a list after INTO judged one after another, with those before each marked: what is refused in them.
 use Rattle.laws.proofs.Basics.{ℕ, ◌+◌, ◌-◌, ◌/◌, ◌%◌, ◌^◌, ◌<◌, ◌≤◌, ◌≡◌, refl, sym, ap, ◌∙◌, List, [], ◌∷◌, ◌++◌, append_assoc, append-nil, Bool}
 use Rattle.laws.proofs.Basics.{true, false, cond, length, get_or, set, replicate, length-set, length-replicate, eqb, arith, eqb-true, eqb-false}
-use Rattle.laws.proofs.Cases.{by_cases}
+use Rattle.std.specs.Prelude.{Ok, Err}
+use Rattle.laws.proofs.Cases.{by_cases, contradiction}
 use Rattle.language.specs.Tree as T
 use Rattle.compiler.proofs.Language.{doubled_label, Label, Commands, Scope, fault, Judged, good, refused, judge, judged_word, CaseLabel, has_case}
 use Rattle.compiler.proofs.Language.{has_default}
 use Rattle.compiler.proofs.Language.{labels_before, labels_of, good_case, doubled_case, doubled}
 use Rattle.language.specs.Resolved as R
-use Rattle.compiler.proofs.Vocabulary.{State, Node, NodeAt, Did, Faulted, Verdict, label_faults, ReadyLabels, JudgesLabels}
+use Rattle.compiler.proofs.Vocabulary.{State, Node, NodeAt, Did, Faulted, Verdict, Refused, label_faults, ReadyLabels, JudgesLabels}
 use Rattle.compiler.specs.declared.labels.Span.{Span}
 use Rattle.compiler.specs.Commands.{nothing}
 use Rattle.compiler.specs.Locals.{Says, says_refused, Judges, Blames}
@@ -143,18 +144,18 @@ module _ (text : List ℕ) {s : List ℕ} {end : ℕ} (top : ℕ) (st r : State)
           (λ p a e m. absurd (omega arith)) l;
     }
 
-    pub label-refused : {seen : List ℕ} → (j.number ≡ 0 → ⊥) → Blames j st r → JudgesLabel text s end top seen seen st r
+    pub label-refused : {seen : List ℕ} {e : Refused} → j ≡ Err e → Blames j st r → JudgesLabel text s end top seen seen st r
     label-refused {seen} z b = case-by (λ p ls x. of-verdict
         (λ x. get_or s (end - 2) 0 ≡ p → judged_word x < 65536 → Marks seen ls
         → Marks seen (ls ++ good_case x []) × ((t : List ℕ) → Did (doubled_case p x ls) nothing 0 t t st r))
-        (λ w e low m. absurd (z w)) (λ number a k w e low m. (rw (append-nil ls) m, b.by (refused _) (says_refused a k w))) x)
+        (λ v w e low m. contradiction cc) (λ a k e low m. (rw (append-nil ls) m, b.by (refused _) (rw k says_refused))) x)
 
-    pub label-case : {seen seen' : List ℕ} → j.number ≡ 0 → Notes j.word n.place seen seen' st r → JudgesLabel text s end top seen seen' st r
-    label-case {seen} {seen'} z w = case-by (λ p ls x. of-verdict
+    pub label-case : {seen seen' : List ℕ} {v : ℕ} → j ≡ Ok v → Notes v n.place seen seen' st r → JudgesLabel text s end top seen seen' st r
+    label-case {seen} {seen'} {v} z w = case-by (λ p ls x. of-verdict
         (λ x. get_or s (end - 2) 0 ≡ p → judged_word x < 65536 → Marks seen ls
         → Marks seen' (ls ++ good_case x []) × ((t : List ℕ) → Did (doubled_case p x ls) nothing 0 t t st r))
-        (λ k e low m. (case-marks w low m, λ t. rw (nd.place ∙ e) at (case-did w low m t)))
-        (λ number a k u e low m. absurd (k (sym a ∙ z))) x)
+        (λ u k e low m. let q : v ≡ u = cc in let h = rw q at w in (case-marks h low m, λ t. rw (nd.place ∙ e) at (case-did h low m t)))
+        (λ a k e low m. contradiction cc) x)
 
 -- ---- all labels of a command, and of all commands
 

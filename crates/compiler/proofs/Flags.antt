@@ -1,5 +1,5 @@
 -- Flags, eight in an entry: what one more changes.
-use Rattle.laws.proofs.Basics.{ℕ, zero, suc, ◌+◌, ◌/◌, ◌%◌, ◌^◌, ◌<◌, ◌≤◌, zero-le, ◌≡◌, refl, sym, ap, ◌∙◌, List, length, get_or, set, replicate}
+use Rattle.laws.proofs.Basics.{ℕ, zero, suc, ◌+◌, ◌*◌, ◌/◌, ◌%◌, ◌^◌, ◌<◌, ◌≤◌, ◌≡◌, refl, sym, ap, ◌∙◌, List, length, get_or, set, replicate}
 use Rattle.laws.proofs.Basics.{get_or-replicate, List·getD-eq-default, get_or-set_same, get_or-set_other, eqb, arith, eqb-true, eqb-false}
 use Rattle.laws.proofs.Cases.{by_cases}
 use native.Mathlib.Nat.{pow-suc, zero-div}
@@ -36,10 +36,14 @@ more-small (suc n) x zero l s e = omega (arith, pow-suc 2 n)
 more-small (suc n) x (suc a) l s e =
     omega (arith, pow-suc 2 n, pow-suc 2 a, more-small n (x / 2) a (omega arith) (omega (arith, pow-suc 2 n)) (sym (bit-half x a) ∙ e))
 
--- ---- in a list
-
 nothing : (m : ℕ) → 0 / m % 2 ≡ 0
 nothing m = simp zero-div
+
+-- a flag by itself, in a byte
+pub mark-is : (i : ℕ) → 1 * 2 ^ (i % 8) % 256 ≡ 2 ^ (i % 8)
+mark-is i = let z : 0 + 2 ^ (i % 8) < 2 ^ 8 = more-small 8 0 (i % 8) (omega arith) (omega arith) (nothing (2 ^ (i % 8))) in omega arith
+
+-- ---- in a list
 
 pub flag-beyond : (seen : List ℕ) (i : ℕ) → length seen ≤ i / 8 → flag seen i ≡ 0
 flag-beyond seen i l = rw (List·getD-eq-default seen 0 l, nothing (2 ^ (i % 8)))
@@ -66,12 +70,3 @@ module _ (seen : List ℕ) (i : ℕ) {x p : ℕ} (ex : x ≡ get_or seen (i / 8)
 
 pub flag-taken : (seen : List ℕ) (i : ℕ) → (flag seen i ≡ 0 → ⊥) → flag seen i ≡ 1
 flag-taken seen i n = omega arith
-
--- ---- the last of eight
-
-past : (j : ℕ) {k : ℕ} → j ≤ k → (k ≡ j → ⊥) → j + 1 ≤ k
-past j l n = omega arith
-
-pub last-of-eight : {k : ℕ} → k < 8 → (k ≡ 0 → ⊥) → (k ≡ 1 → ⊥) → (k ≡ 2 → ⊥) → (k ≡ 3 → ⊥) → (k ≡ 4 → ⊥) → (k ≡ 5 → ⊥) → (k ≡ 6 → ⊥) → 7 ≡ k
-last-of-eight l n0 n1 n2 n3 n4 n5 n6 =
-    let h = past 6 (past 5 (past 4 (past 3 (past 2 (past 1 (past 0 zero-le n0) n1) n2) n3) n4) n5) n6 in omega (arith, l, h)

@@ -18,7 +18,7 @@ use Rattle.compiler.proofs.Common.{did_then, did-as, did_at, did-fresh, same_ref
 use Rattle.compiler.proofs.Common.{with-ways}
 use Rattle.compiler.specs.Commands.{nothing}
 use Rattle.compiler.proofs.Judging.{says-word}
-use Rattle.compiler.specs.Locals.{Says, Blames}
+use Rattle.compiler.specs.Locals.{word_of, Says, Blames}
 use Rattle.compiler.proofs.Guards.{closed-start, command-closed, expression-closed, unlabelled-closed}
 use Rattle.compiler.proofs.Commands.{named-block-keeps, named-block-shows}
 use Rattle.compiler.proofs.Conditions.{leaves_loop}
@@ -122,8 +122,8 @@ module _ {s : List ℕ} {end : ℕ} {here : Here} {st : State} (n b l : Node) {l
 
     module _ {s₂ t₃ t₄ : List ℕ} {i j : State} (g₂ : GaveE text s₁ s₂ le (raised 1 here) t₂ t₃ d i)
         (f₂ : Emits (G.SP (here.height + 1) ∷ []) ((here.height + 1 + 1) ∷ []) t₃ t₄ i j)
-        {v : Verdict} (jb : JudgesBy text s₂ le b.start here.top v) {k : State} (bl : Blames v j k) {t₅ : List ℕ} {m : State}
-        (f₃ : Emits (I.label st.label ∷ G.LIP here.height ∷ G.LIP (here.height + 1) ∷ G.X (G.limit_act v.word) ∷ G.FL (st.label + 2) ∷ [])
+        {v : Verdict} (jb : JudgesBy text s₂ le b.start here.top v) {k : State} (bl : Blames v j k) {word : ℕ} (ew : word ≡ word_of v) {t₅ : List ℕ} {m : State}
+        (f₃ : Emits (I.label st.label ∷ G.LIP here.height ∷ G.LIP (here.height + 1) ∷ G.X (G.limit_act word) ∷ G.FL (st.label + 2) ∷ [])
         [] t₄ t₅ k m) where
       pub for-keeps : (y : ReadyU s end here st) → Keeps y.base here.top s s₂
       for-keeps y = keeps_then (g.by (for-first e y)).keeps (g₂.by (for-limit y)).keeps
@@ -171,7 +171,7 @@ module _ {s : List ℕ} {end : ℕ} {here : Here} {st : State} (n b l : Node) {l
         pub for-gave : (ways : Ways) {s₅ t₆ t₇ : List ℕ} {o r : State}
             → GaveC text s₄ s₅ n.inner (placed (here.top + 4) (here.height + 2) here) (in_loop (st.label + 1) (st.label + 2) ways) t₅ t₆ m o
             → Emits
-            (I.label (st.label + 1) ∷ G.LIP here.height ∷ G.A v.word ∷ G.SP here.height ∷ G.JL st.label ∷ I.label (st.label + 2) ∷ [])
+            (I.label (st.label + 1) ∷ G.LIP here.height ∷ G.A word ∷ G.SP here.height ∷ G.JL st.label ∷ I.label (st.label + 2) ∷ [])
             [] t₆ t₇ o r → GaveU text s s₅ end here ways t t₇ st r
         unfolding in_unlabelled unlabelled G.cmd_code of_cmd G.cmd_labels
         for-gave ways {s₅} {t₆} {t₇} {o} {r} g₃ f₄ = record {
@@ -180,7 +180,7 @@ module _ {s : List ℕ} {end : ℕ} {here : Here} {st : State} (n b l : Node) {l
               let h = here.height in let L = st.label in let lv = leavable_by ways here in
               let sc' = declared (opened sc) u.name (N.local h) in let E = expression text sc h u.start in
               let D = expression text sc (h + 1) u.limit in let C = command text sc' (h + 2) u.body in let B = by_of text sc u.by in
-              let eb : v.word ≡ B = says-word _ (for-says y) ∙ by_word text sc u.by in
+              let eb : word ≡ B = ew ∙ says-word _ (for-says y) ∙ by_word text sc u.by in
               let eh : h + 1 + 1 ≡ h + 2 = omega arith in
               let ec : L + 3 + (G.expr_labels E + G.expr_labels D) ≡ L + 3 + G.expr_labels E + G.expr_labels D = omega arith in
               let ll = leaves_loop here ways (L + 1) (L + 2) (omega arith) in let bf = bl.by (by_judged text sc u.by) (for-says y) t₄ in

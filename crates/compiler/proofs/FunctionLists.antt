@@ -1,6 +1,6 @@
 -- The functions of a group, one after another: what each adds to the faults, the code and the heights, and the loop.
 use Rattle.laws.proofs.Basics.{ℕ, suc, ◌+◌, ◌*◌, ◌^◌, ◌<◌, ◌≤◌, ◌≡◌, refl, sym, ap, subst, ◌∙◌, List, [], ◌∷◌, ◌++◌, append_assoc, append-nil, cond}
-use Rattle.laws.proofs.Basics.{length, get_or, length-append, ltb, arith, lt-ltb, le-ltb}
+use Rattle.laws.proofs.Basics.{min, length, get_or, length-append, ltb, arith, lt-ltb, le-ltb}
 use Rattle.laws.proofs.Cases.{either}
 use Rattle.items.specs.Item as I
 use Rattle.compiler.proofs.Language.{Function, Scope, lookup, Fault, fault, Fun, Start, heights_of, greatest, largest_height, FineFunctions}
@@ -13,22 +13,19 @@ use Rattle.compiler.proofs.Vocabulary.{function_says, functions_says, inner_labe
 use Rattle.compiler.specs.declared.program.Done.{Done}
 use Rattle.compiler.proofs.Common.{and, keeps-shows, least-then, fit_then, fault-fits, nil-left, nil-right, did_none, did_then, did-as}
 use Rattle.compiler.proofs.Common.{same_refl, code_is, keeps-lies, Rest, rest_all, taken-sizes, rest-next}
+use Rattle.compiler.proofs.Done.{step-min}
 use Rattle.compiler.proofs.GroupLaws.{IsFunction, is-function, no-function}
 
 -- ---- the least 16
 
 module _ (tall high place : ℕ) where
-  pub tall-new : 8192 < high → place * 32 + 16 < tall → place * 32 + 16 ≡ least tall (cond (ltb 8192 high) (fault place 16) [])
+  pub tall_new : {r : ℕ} → 8192 < high → r ≡ min tall (place * 32 + 16) → r ≡ least tall (cond (ltb 8192 high) (fault place 16) [])
   unfolding least
-  tall-new h l = rw (lt-ltb 8192 high h, lt-ltb (place * 32 + 16) tall l)
+  tall_new h e = e ∙ rw (lt-ltb 8192 high h) (sym (step-min (place * 32 + 16) tall))
 
-  pub tall-old : tall ≤ place * 32 + 16 → tall ≡ least tall (cond (ltb 8192 high) (fault place 16) [])
+  pub tall_low : high ≤ 8192 → tall ≡ least tall (cond (ltb 8192 high) (fault place 16) [])
   unfolding least
-  tall-old l = either (λ (fs : List Fault). tall ≡ least tall fs) (ltb 8192 high) (λ e. rw (le-ltb (place * 32 + 16) tall l)) (λ e. refl)
-
-  pub tall-low : high ≤ 8192 → tall ≡ least tall (cond (ltb 8192 high) (fault place 16) [])
-  unfolding least
-  tall-low l = rw (le-ltb 8192 high l)
+  tall_low l = rw (le-ltb 8192 high l)
 
 -- ---- one list after another
 

@@ -10,9 +10,8 @@ use Rattle.compiler.proofs.Vocabulary.{CountsGroup}
 use Rattle.compiler.specs.Walks.{Items, no_item}
 use Rattle.compiler.proofs.Common.{means-unknown, means-global, keeps-all, pushed-keeps, pushed-name, did_none, First, first_of}
 use Rattle.compiler.specs.Commands.{nothing}
-use Rattle.compiler.proofs.Counting as C
+use Rattle.compiler.proofs.Vocabulary.{Counts}
 use Rattle.compiler.proofs.Counting.{item-first}
-pub use Rattle.compiler.proofs.Counting.{Counting, count-begin, count_next}
 
 -- ---- 9 at a function's name
 
@@ -104,5 +103,5 @@ function-items {at = at} [] h e = no_item {from = at} (omega arith)
 function-items {at = at} (f ∷ fs) h e =
     item-first (encode_function f) (encode_functions fs) h e (λ r q. function-items {at = at + 2 + length (encode_function f)} fs r q)
 
-pub count-end : {s : List ℕ} {from end at n : ℕ} → end ≤ at → Counting s from end at n → CountsGroup s from end n
-count-end l q = record { by = λ fs h e. (C.count-end l q).by (length fs) (function-items fs h e) }
+pub counts-group : {s : List ℕ} {from end n : ℕ} → Counts s from end n → CountsGroup s from end n
+counts-group c = record { by = λ fs h e. c.by (length fs) (function-items fs h e) }

@@ -1,6 +1,7 @@
 -- IF and UNLESS.
-use Rattle.laws.proofs.Basics.{ℕ, ◌+◌, ◌-◌, ◌≤◌, ◌≡◌, refl, sym, ap, subst, ◌∙◌, List, [], ◌∷◌, ◌++◌, append_assoc, false, cond, length, get_or}
+use Rattle.laws.proofs.Basics.{ℕ, ◌+◌, ◌-◌, ◌<◌, ◌≤◌, ◌≡◌, refl, sym, ap, subst, ◌∙◌, List, [], ◌∷◌, ◌++◌, append_assoc, false, cond, length, get_or}
 use Rattle.laws.proofs.Basics.{length-append, eqb, arith}
+use Rattle.laws.proofs.Cases.{by_equal}
 use Rattle.items.specs.Item as I
 use Rattle.language.specs.Tree as T
 use Rattle.compiler.proofs.Language.{Expression, Command, Unlabelled, ends_in_call, place_of, depth, command_depth, unlabelled_depth, Scope}
@@ -155,8 +156,11 @@ module _ {s : List ℕ} {end : ℕ} {here : Here} {st : State} (n b : Node) (nd 
           };
     }
 
-pub when-if : {s : List ℕ} {end : ℕ} (n : Node) → NodeAt s end n → n.kind ≡ 16 → WhenKind s end
+when-if : {s : List ℕ} {end : ℕ} (n : Node) → NodeAt s end n → n.kind ≡ 16 → WhenKind s end
 when-if n nd q = record { word = subst WhenWord (sym q ∙ nd.kind) an_if }
 
-pub when-unless : {s : List ℕ} {end : ℕ} (n : Node) → NodeAt s end n → n.kind ≡ 17 → WhenKind s end
+when-unless : {s : List ℕ} {end : ℕ} (n : Node) → NodeAt s end n → n.kind ≡ 17 → WhenKind s end
 when-unless n nd q = record { word = subst WhenWord (sym q ∙ nd.kind) an_unless }
+
+pub when-guards : {s : List ℕ} {end : ℕ} (n : Node) → NodeAt s end n → 16 ≤ n.kind → n.kind < 18 → WhenKind s end
+when-guards n nd a b = by_equal n.kind 16 (λ e. when-if n nd e) (λ e. when-unless n nd (omega arith))

@@ -10,7 +10,7 @@ use Rattle.compiler.proofs.Common.{keeps-lower, keeps-name, name-there, pushed-k
 use Rattle.compiler.proofs.Common.{second, keeps-lies, First, first_of, Rest, rest_all, rest-next}
 use Rattle.compiler.specs.Commands.{nothing}
 use Rattle.compiler.proofs.Judging.{judged-word, says-word}
-use Rattle.compiler.specs.Locals.{Says, Judges, JudgesMost, Blames}
+use Rattle.compiler.specs.Locals.{word_of, Says, Judges, JudgesMost, Blames}
 use Rattle.language.specs.Program.{globals_after, manifests_after, global_faults, manifest_faults}
 use Rattle.compiler.specs.Items.{judged, meaning, after, faults, FineIs, JudgesItem, ReadyItems, Items}
 
@@ -139,14 +139,14 @@ module _ (g : Bool) (text : List ℕ) {s₀ : List ℕ} {from end top : ℕ} (st
 
   pub items-next : {s s₁ : List ℕ} {at size next m place x : ℕ} {c : Verdict} (k : ℕ) {st a r : State} → at < end → size ≡ get_or s at 0
       → next ≡ at + 2 + size → JudgesItem g text s next (top + 2 * k) c → S.Told text s (top + 2 * k) (at + 2) m → place ≡ get_or s (at + 4) 0 → Blames
-      c st a → Again m place a r → PushedName s s₁ (top + 2 * k) (at + 2) x → x ≡ code (meaning g c.word) → (y : ReadyItems s₀ from end top)
+      c st a → Again m place a r → PushedName s s₁ (top + 2 * k) (at + 2) x → {v : ℕ} → v ≡ word_of c → x ≡ code (meaning g v) → (y : ReadyItems s₀ from end top)
       → ItemsPart y s at k st → ItemsPart y s₁ next (k + 1) r
-  items-next {s} {s₁} {at} {size} {next} {m} {place} {x} {c} k {st} {a} {r} l es en ju told ep bl ag pu ex y p =
+  items-next {s} {s₁} {at} {size} {next} {m} {place} {x} {c} k {st} {a} {r} l es en ju told ep bl ag pu {v} ev ex y p =
       let u = front k l y p in let f = items-fit k l y p in let told-k = item-says k l y p es en ju in let i = u.part in
       let sc = p.scope in let sc' = scope_with g text sc i in let j = judged g text sc i.constant in
       let n : name_at s (at + 2) ≡ i.name = item-name k l y p in let four : at + 4 ≡ at + 2 + 2 = omega arith in
       let ep' : place ≡ i.name.place = cc in
-      let w : meaning g c.word ≡ meaning g (judged_word j) = ap (meaning g) (says-word j told-k) in
+      let w : meaning g v ≡ meaning g (judged_word j) = ap (meaning g) (ev ∙ says-word j told-k) in
       let tk : top + 2 * k + 2 ≡ top + 2 * (k + 1) = omega arith in
       record {
         left = rest-next p.left u es en (keeps-lower (omega arith) (pushed-keeps pu.pushed f.room f.long));

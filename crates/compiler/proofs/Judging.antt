@@ -1,6 +1,9 @@
 -- Constants, and one declaration of locals.
 use Rattle.laws.proofs.Basics.{ℕ, ◌+◌, ◌-◌, ◌*◌, ◌/◌, ◌%◌, ◌^◌, ◌<◌, ◌≤◌, ◌≡◌, refl, sym, ap, subst, ◌∙◌, List, [], ◌∷◌, ◌++◌, append-nil, Bool, true}
 use Rattle.laws.proofs.Basics.{false, cond, length, get_or, length-append, leb, arith, le-leb, lt-leb}
+use Rattle.std.specs.Prelude.{Ok, Err}
+use Rattle.text.specs.Faults.{number_of}
+use Rattle.text.specs.declared.faults.Fault.TheVariants as F
 use Rattle.language.specs.Tree as T
 use Rattle.compiler.proofs.Language.{Name, Simple, Constant, expressions_depth, Scope, lookup, fault, Judged, good, refused, judge, for_vector}
 use Rattle.compiler.proofs.Language.{judged_word, faults_of, signed, of_found, of_simple, within, declare_all, encode_name, encode_names}
@@ -8,18 +11,18 @@ use Rattle.compiler.proofs.Language.{encode_constant}
 use Rattle.compiler.proofs.Language.{encode_positive, encode_negative, encode_expressions, FineName, FineNames, FineConstant}
 use Rattle.language.specs.Names as N
 use Rattle.code.specs.Generate as G
-use Rattle.compiler.proofs.Vocabulary.{Shows, Did, Looked, code, found, name_at, State, Here, Node, FineEs, NodeAt, Emits, Faulted, Holds, ReadyArgs}
-use Rattle.compiler.proofs.Vocabulary.{GaveArgs, Verdict, ReadyNames, Declares}
+use Rattle.compiler.proofs.Vocabulary.{Shows, Looked, code, found, name_at, State, Here, Node, FineEs, NodeAt, Emits, Faulted, Holds, ReadyArgs}
+use Rattle.compiler.proofs.Vocabulary.{GaveArgs, Verdict, Refused, ReadyNames, Declares}
 use Rattle.compiler.proofs.Common.{ready-names, keeps-all, keeps_then, keeps-shows, name-there, means-unknown, means-manifest, Held}
 use Rattle.compiler.proofs.Common.{looked-word, did_none, did_then, did-emit, did-as, same_refl, code_is, keeps-lies, kid, ends, value-is}
 use Rattle.compiler.proofs.Common.{place_is, size_is, kind-is, IsTwo, two-closed, sub}
 use Rattle.compiler.specs.Commands.{nothing}
-use Rattle.compiler.specs.Locals.{Says, says_good, says_refused, NamedConstant, Judges, JudgesMost, Blames}
+use Rattle.compiler.specs.Locals.{Fitting, word_of, Says, says_good, says_refused, NamedConstant, Judges, JudgesMost, Blames}
 use Rattle.compiler.specs.Locals.{Local, a_vector, some_values, encode_local}
 use Rattle.compiler.specs.Locals.{local_depth, FineLocal, scope_with, height_with, faults_l, local_says, ReadyLocal, GaveLocal}
 
-pub signed-minus : {b : Bool} {x : ℕ} (v : ℕ) → b ≡ true → x ≡ 65536 - v → x % 65536 ≡ signed b v
-signed-minus {b} {x} v e q = let z : x % 65536 ≡ (0 + (65536 - v)) % 65536 = ap (λ (k : ℕ). k % 65536) (omega arith) in rw e z
+pub signed_minus : {b : Bool} {x : ℕ} (v : ℕ) → b ≡ true → x ≡ 65536 - v → x % 65536 ≡ signed b v
+signed_minus {b} {x} v e q = let z : x % 65536 ≡ (0 + (65536 - v)) % 65536 = ap (λ (k : ℕ). k % 65536) (omega arith) in rw e z
 
 -- ---- what a name means, as a constant
 
@@ -37,25 +40,25 @@ of-found P c n (N.known (N.manifest v)) a b d = b v refl
 of-found P c n (N.known (N.function k)) a b d = d
 
 module _ {m : ℕ} (minus : Bool) {name place : ℕ} (fits : (name < 2 ^ 32) × (place < 2 ^ 32) × (m < 2 ^ 32)) where
-  pub named-unknown : m ≡ 0 → NamedConstant m minus name place (record { word = 0; number = 8; place = name })
+  pub named-unknown : m ≡ 0 → NamedConstant m minus name place (Err (record { place = name; fault = F.UnknownName }))
   named-unknown e = record {
-    by = λ c n f q em ep en. rw (means-unknown f q e, en) (says_refused refl (λ z. omega arith) refl);
+    by = λ c n f q em ep en. rw (means-unknown f q e, en) says_refused;
     fits = (fits.0, omega arith);
     low = omega arith;
   }
 
-  pub named-manifest : {x : ℕ} → m % 4 ≡ 3 → x ≡ signed minus (m / 4) → NamedConstant m minus name place (record { word = x; number = 0; place = 0 })
+  pub named-manifest : {x : ℕ} → m % 4 ≡ 3 → x ≡ signed minus (m / 4) → NamedConstant m minus name place (Ok x)
   named-manifest {x} e ex = record {
-    by = λ c n f q em ep en. let w : x ≡ signed c.minus (m / 4) = rw (ex, em) in rw (means-manifest f q e, ← w) (says_good refl);
-    fits = (omega arith, omega arith);
+    by = λ c n f q em ep en. let w : x ≡ signed c.minus (m / 4) = rw (ex, em) in rw (means-manifest f q e, ← w) says_good;
+    fits = tt;
     low = omega (arith, signed-under minus (m / 4) (2 ^ 30) (omega arith) (omega arith));
   }
 
-  pub named_other : (m ≡ 0 → ⊥) → (m % 4 ≡ 3 → ⊥) → NamedConstant m minus name place (record { word = 0; number = 11; place = place })
+  pub named_other : (m ≡ 0 → ⊥) → (m % 4 ≡ 3 → ⊥) → NamedConstant m minus name place (Err (record { place = place; fault = F.Constant }))
   unfolding found code
   named_other n0 n3 = record {
-    by = λ c n f q em ep en. of-found (Says (record { word = 0; number = 11; place = place })) c n f (λ z. absurd (n0 (q ∙ ap found z)))
-        (λ v z. let w = q ∙ ap found z in absurd (n3 (omega arith))) (rw ep (says_refused refl (λ z. omega arith) refl));
+    by = λ c n f q em ep en. of-found (Says (Err (record { place = place; fault = F.Constant }))) c n f (λ z. absurd (n0 (q ∙ ap found z)))
+        (λ v z. let w = q ∙ ap found z in absurd (n3 (omega arith))) (rw ep says_refused);
     fits = (fits.1, omega arith);
     low = omega arith;
   }
@@ -82,7 +85,7 @@ FineSimple p b x = ((v : ℕ) → x ≡ T.literal v → v < 65536) × ((n : Name
 
 module _ (text : List ℕ) {s : List ℕ} {end : ℕ} (top : ℕ) (n : Node) (nd : NodeAt s end n) where
   -- a number, a name, a number with a minus, and a name with a minus
-  judges : {r : Verdict} → (r.place < 2 ^ 32) × (r.number < 32) → r.word < 2 ^ 30
+  judges : {r : Verdict} → Fitting r → word_of r < 2 ^ 30
       → ((v : ℕ) → n.kind ≡ 60 → n.value ≡ v → v < 65536 → Says r (good v))
       → ((sc : Scope) (c : Constant) (x : Name) → Shows s top sc → n.kind ≡ 59 → name_at s n.inner ≡ x → x.place ≡ n.place → c.minus ≡ false
       → c.place ≡ n.place → Says r (of_found c x (lookup text sc x)))
@@ -112,8 +115,8 @@ module _ (text : List ℕ) {s : List ℕ} {end : ℕ} (top : ℕ) (n : Node) (nd
           minus-name sc (record { place = p; minus = true; simple = T.known x }) x sh (nd.kind ∙ kind-is c 0 p 36 h e) (omega arith)
           (rw es at (name-there s lo (hc.at 1 (omega arith)) (hc.at 2 (omega arith)))) refl (sym (nd.place ∙ place_is c 0 p 36 h e))
 
-  pub judge-number : n.kind ≡ 60 → Judges text s end top (record { word = n.value % 65536; number = 0; place = 0 })
-  judge-number q = judges (omega arith, omega arith) (omega arith) (λ v k e l. let w : v ≡ n.value % 65536 = omega arith in rw w (says_good refl))
+  pub judge-number : n.kind ≡ 60 → Judges text s end top (Ok (n.value % 65536))
+  judge-number q = judges tt (omega arith) (λ v k e l. let w : v ≡ n.value % 65536 = omega arith in rw w says_good)
       (λ sc c x sh k en o m p. absurd (omega arith)) (λ v k z e. absurd (omega arith)) (λ sc c x sh k z en m p. absurd (omega arith))
 
   pub judge-name : {m : ℕ} {r : Verdict} → n.kind ≡ 59 → Looked text s top n.inner m → NamedConstant m false n.place n.place r
@@ -123,9 +126,9 @@ module _ (text : List ℕ) {s : List ℕ} {end : ℕ} (top : ℕ) (n : Node) (nd
       (λ v k z e. absurd (omega arith)) (λ sc c x sh k z en m p. absurd (omega arith))
 
   pub judge-negative : {w : ℕ} → (n.kind ≡ 60 → ⊥) → (n.kind ≡ 59 → ⊥) → n.start ≡ n.inner → w ≡ signed true n.value
-      → Judges text s end top (record { word = w; number = 0; place = 0 })
-  judge-negative n1 n2 q ew = judges (omega arith, omega arith) (omega arith) (λ v k e l. absurd (n1 k)) (λ sc c x sh k en o m p. absurd (n2 k))
-      (λ v k z e. rw (← (ew ∙ ap (signed true) e)) (says_good refl)) (λ sc c x sh k z en m p. absurd (omega arith))
+      → Judges text s end top (Ok w)
+  judge-negative n1 n2 q ew = judges tt (omega arith) (λ v k e l. absurd (n1 k)) (λ sc c x sh k en o m p. absurd (n2 k))
+      (λ v k z e. rw (← (ew ∙ ap (signed true) e)) says_good) (λ sc c x sh k z en m p. absurd (omega arith))
 
   pub judge-negated : {m name : ℕ} {r : Verdict} → (n.kind ≡ 60 → ⊥) → (n.kind ≡ 59 → ⊥) → (n.start ≡ n.inner → ⊥)
       → Looked text s top n.start m → name ≡ get_or s (n.start + 2) 0 → NamedConstant m true name n.place r → Judges text s end top r
@@ -149,52 +152,67 @@ unfolding encode_constant
 place-there c f h e = constant-place c.place c.minus c.simple (f.small, f.place) h e
 
 -- a test that a constant passes, and one that it fails
-module _ {j : Verdict} (c : Constant) (test : ℕ → Bool) where
-  pub within-passes : (x : Judged) → (j.number ≡ 0 → test j.word ≡ true) → Says j x → Says j (within c test x)
-  within-passes (good v) p (says_good q) = rw (p q) (says_good q)
-  within-passes (refused fs) p (says_refused a b w) = says_refused a b w
+module _ (c : Constant) (test : ℕ → Bool) where
+  pub within-refused : {e : Refused} (x : Judged) → Says (Err e) x → Says (Err e) (within c test x)
+  within-refused (refused fs) says_refused = says_refused
+  within-refused (good v) x = elim x [ ]
 
-  pub within-fails : (x : Judged) {place : ℕ} → (j.word ≡ 0 → j.number ≡ 0) → test j.word ≡ false → place ≡ c.place → Says j x
-      → Says (record { word = 0; number = 11; place = place }) (within c test x)
-  within-fails (good v) n f e (says_good q) = rw (f, ← e) (says_refused refl (λ z. omega arith) refl)
-  within-fails (refused fs) n f e (says_refused a b w) = absurd (b (sym a ∙ n w))
+  pub within-passes : {v : ℕ} (x : Judged) → test v ≡ true → Says (Ok v) x → Says (Ok v) (within c test x)
+  within-passes (good v) p says_good = rw p says_good
+  within-passes (refused fs) p x = elim x [ ]
 
-module _ (most : ℕ) {text s : List ℕ} {end top : ℕ} {j : Verdict} (g : Judges text s end top j) where
-  pub most-big : {p e₂ : ℕ} → most < j.word → e₂ ≡ end - 2 → p ≡ get_or s e₂ 0 → p < 2 ^ 32
-      → JudgesMost most text s end top (record { word = 0; number = 11; place = p })
-  most-big l q e f = record {
+  pub within-fails : {v : ℕ} (x : Judged) {place : ℕ} → test v ≡ false → place ≡ c.place → Says (Ok v) x
+      → Says (Err (record { place = place; fault = F.Constant })) (within c test x)
+  within-fails (good v) f e says_good = rw (f, ← e) says_refused
+  within-fails (refused fs) f e x = elim x [ ]
+
+module _ (most : ℕ) {text s : List ℕ} {end top : ℕ} where
+  pub most-refused : {e : Refused} → Judges text s end top (Err e) → JudgesMost most text s end top (Err e)
+  most-refused g = record {
+    small = omega arith;
+    fits = g.fits;
+    by = λ sc lo c sh fine h en. within-refused c (λ v. leb v most) (judge text sc c) (g.by sc lo c sh fine h en);
+  }
+
+  pub most-big : {v p e₂ : ℕ} → Judges text s end top (Ok v) → most < v → e₂ ≡ end - 2 → p ≡ get_or s e₂ 0 → p < 2 ^ 32
+      → JudgesMost most text s end top (Err (record { place = p; fault = F.Constant }))
+  most-big {v} g l q e f = record {
     small = omega arith;
     fits = (f, omega arith);
-    by = λ sc lo c sh fine h en. within-fails c (λ v. leb v most) (judge text sc c) (λ z. absurd (omega arith)) (lt-leb j.word most l)
+    by = λ sc lo c sh fine h en. within-fails c (λ v. leb v most) (judge text sc c) (lt-leb v most l)
         (rw (e, q, place-there c fine h en)) (g.by sc lo c sh fine h en);
   }
 
-  pub most-fits : j.word ≤ most → JudgesMost most text s end top j
-  most-fits l = record {
+  pub most-fits : {v : ℕ} → Judges text s end top (Ok v) → v ≤ most → JudgesMost most text s end top (Ok v)
+  most-fits {v} g l = record {
     small = l;
-    fits = g.fits;
-    by = λ sc lo c sh fine h en. within-passes c (λ v. leb v most) (judge text sc c) (λ q. le-leb j.word most l) (g.by sc lo c sh fine h en);
+    fits = tt;
+    by = λ sc lo c sh fine h en. within-passes c (λ v. leb v most) (judge text sc c) (le-leb v most l) (g.by sc lo c sh fine h en);
   }
 
 -- what is shown of a constant by what is said of it
-pub of-verdict : {j : Verdict} (P : Judged → Type 0) → (j.number ≡ 0 → P (good j.word))
-    → ((number : ℕ) → j.number ≡ number → (number ≡ 0 → ⊥) → j.word ≡ 0 → P (refused (fault j.place number))) → (x : Judged) → Says j x → P x
-of-verdict P f g (good v) (says_good q) = f q
-of-verdict P f g (refused fs) (says_refused {number = number} a b w) = g number a b w
+pub of-verdict : {j : Verdict} (P : Judged → Type 0) → ((v : ℕ) → j ≡ Ok v → P (good v))
+    → ((e : Refused) → j ≡ Err e → P (refused (fault e.place (number_of e.fault)))) → (x : Judged) → Says j x → P x
+of-verdict P f g (good v) says_good = f v refl
+of-verdict P f g (refused fs) (says_refused {e}) = g e refl
 
-pub blame-none : {j : Verdict} {st : State} → j.number ≡ 0 → Blames j st st
-blame-none {st = st} e = record {
-  by = of-verdict (λ x. (t : List ℕ) → Did (faults_of x) nothing 0 t t st st) (λ q t. did_none 0) (λ number a b w t. absurd (b (sym a ∙ e)));
-}
+ok-faults : {v : ℕ} (x : Judged) → Says (Ok v) x → faults_of x ≡ []
+ok-faults (good v) says_good = refl
+ok-faults (refused fs) x = elim x [ ]
 
-pub blame-some : {j : Verdict} {st r : State} → (j.number ≡ 0 → ⊥) → Faulted j.place j.number st r → Blames j st r
-blame-some {st = st} {r = r} n f = record {
-  by = of-verdict (λ x. (t : List ℕ) → Did (faults_of x) nothing 0 t t st r) (λ q t. absurd (n q)) (λ number a b w t. rw a at (f.by nothing t));
-}
+err-faults : {e : Refused} (x : Judged) → Says (Err e) x → faults_of x ≡ fault e.place (number_of e.fault)
+err-faults (refused fs) says_refused = refl
+err-faults (good v) x = elim x [ ]
 
-pub says-word : {j : Verdict} (x : Judged) → Says j x → j.word ≡ judged_word x
-says-word (good v) (says_good q) = refl
-says-word (refused fs) (says_refused a b w) = w
+pub blame-none : {v : ℕ} {st : State} → Blames (Ok v) st st
+blame-none = record { by = λ x s t. rw (ok-faults x s) (did_none 0) }
+
+pub blame-some : {e : Refused} {st r : State} → Faulted e.place (number_of e.fault) st r → Blames (Err e) st r
+blame-some f = record { by = λ x s t. rw (err-faults x s) (f.by nothing t) }
+
+pub says-word : {j : Verdict} (x : Judged) → Says j x → word_of j ≡ judged_word x
+says-word (good v) says_good = refl
+says-word (refused fs) says_refused = refl
 
 -- ---- a vector
 
@@ -238,14 +256,15 @@ module _ {s : List ℕ} {end : ℕ} {here : Here} {st : State} (n : Node) (nd : 
       (one_name u.left u.lies)) y.shows (one-fine (vector-fine y).1) (omega (arith, names-long (u.left ∷ [])))
 
   pub vector-gave : (text : List ℕ) {s₁ t t' : List ℕ} {e hh : ℕ} {j : Verdict} {a b c : State} (ee : e ≡ n.start + 4)
-      → JudgesMost 4095 text s n.inner here.top j → Blames j st a → Declares text s s₁ n.start e here.top here.height a b
-      → Emits (G.LP (here.height + 1) ∷ G.SP here.height ∷ []) ((here.height + 2 + j.word) ∷ []) t t' b c → hh ≡ here.height + 2 + j.word
+      → JudgesMost 4095 text s n.inner here.top j → Blames j st a → Declares text s s₁ n.start e here.top here.height a b → {size : ℕ}
+      → size ≡ word_of j → Emits (G.LP (here.height + 1) ∷ G.SP here.height ∷ []) ((here.height + 2 + size) ∷ []) t t' b c
+      → hh ≡ here.height + 2 + size
       → GaveLocal text s s₁ end here t t' st (record { top = here.top + 2; height = hh; done = c })
   unfolding scope_with height_with faults_l local_says declare_all
-  vector-gave text {s₁} {t} {t'} {e} {hh} {j} {a} {b} {c} ee jv bl de em eh = record {
+  vector-gave text {s₁} {t} {t'} {e} {hh} {j} {a} {b} {c} ee jv bl de {size} es em eh = record {
     by = λ y. let u = vector-is y in let sc = y.scope in let h = here.height in let K = u.list in let four = name-long u.left in
         let sa = jv.by sc _ K y.shows
-        (vector-fine y).0 u.lies-list (omega arith) in let d = de.by (vector-names ee y) in let w = says-word (for_vector text sc K) sa in
+        (vector-fine y).0 u.lies-list (omega arith) in let d = de.by (vector-names ee y) in let w : size ≡ judged_word (for_vector text sc K) = es ∙ says-word (for_vector text sc K) sa in
         let two : here.top + 2 * length (u.left ∷ []) ≡ here.top + 2 = omega arith in
         rw u.same (record {
           after = record {

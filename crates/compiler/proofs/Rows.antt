@@ -1,16 +1,19 @@
 -- Items of a list by their ends: the loop over them; labels, one by one and before each command of a list; BY's constant.
 use Rattle.laws.proofs.Basics.{ℕ, ◌+◌, ◌-◌, ◌^◌, ◌<◌, ◌≤◌, ◌≡◌, refl, sym, ap, ◌∙◌, List, [], ◌∷◌, ◌++◌, append-nil, Bool, true, false, cond, some}
 use Rattle.laws.proofs.Basics.{none, length, get_or, length-append, eqb, arith, eq-eqb, ne_eqb}
+use Rattle.std.specs.Prelude.{Ok, Err}
+use Rattle.text.specs.declared.faults.Fault.TheVariants as F
 use Rattle.language.specs.Tree as T
 use Rattle.language.specs.Kinds as K
 use Rattle.compiler.proofs.Language.{Simple, Constant, Label, Scope, fault, judge, faults_of, misplaced, FineConstant, FineLabels, closed}
 use Rattle.compiler.proofs.Language.{encode_name, encode_constant, encode_positive, encode_negative, encode_by, encode_labels}
-use Rattle.compiler.proofs.Vocabulary.{Shows, State, Node, NodeAt, Did, Faulted, Holds, Verdict, JudgesBy, by_judged, ReadyMisplaced, Misplaces}
+use Rattle.compiler.proofs.Vocabulary.{Shows, State, Node, NodeAt, Did, Faulted, Holds, Verdict, Refused, JudgesBy, by_judged, ReadyMisplaced}
+use Rattle.compiler.proofs.Vocabulary.{Misplaces}
 use Rattle.compiler.specs.Commands.{nothing}
-use Rattle.compiler.specs.Locals.{Says, says_good, Judges, Blames}
+use Rattle.compiler.specs.Locals.{Fitting, Says, says_good, Judges, Blames}
 use Rattle.compiler.specs.Labels.{Row, no_more, and_more, NextItem, LabelAt, a_case, a_default, MisplacesLabel}
 use Rattle.compiler.proofs.Common.{did_none, did_then, did-as, same-eq, first, second, kid, ends, place_is, kind-is}
-use Rattle.compiler.proofs.Judging.{place-there, within-passes, within-fails}
+use Rattle.compiler.proofs.Judging.{place-there, within-refused, within-passes, within-fails}
 
 -- ---- the constant of BY
 
@@ -24,30 +27,37 @@ constant-long c = go c.minus c.simple
     go false (T.literal v) = omega arith
     go false (T.known n) = omega arith
 
+-- any but 0
+abbrev some_word : ℕ → Bool
+some_word v = cond (eqb v 0) false true
+
 module _ (text : List ℕ) {s : List ℕ} {from end top : ℕ} where
-  pub by-none : end ≤ from → JudgesBy text s from end top (record { word = 1; number = 0; place = 0 })
+  pub by-none : end ≤ from → JudgesBy text s from end top (Ok 1)
   unfolding encode_by
   by-none l = record {
-    fits = (omega arith, omega arith);
-    by = λ sc. elim [ none ↦ λ sh f h e. says_good refl | some c ↦ λ sh f h e. absurd (omega (arith, constant-long c)) ];
+    fits = tt;
+    by = λ sc. elim [ none ↦ λ sh f h e. says_good | some c ↦ λ sh f h e. absurd (omega (arith, constant-long c)) ];
   }
 
   -- whatever a constant there is judged, if there is one
-  judges-by : {r : Verdict} → from < end → (r.place < 2 ^ 32) × (r.number < 32) →
+  judges-by : {r : Verdict} → from < end → Fitting r →
       ((sc : Scope) (c : Constant) → Shows s top sc → FineConstant c → Holds s from (encode_constant c) → end ≡ from + length (encode_constant c) → Says
       r (by_judged text sc (some c))) → JudgesBy text s from end top r
   unfolding encode_by
   judges-by l f g = record { fits = f; by = λ sc. elim [ none ↦ λ sh f h e. absurd (omega arith) | some c ↦ λ sh f h e. g sc c sh f h e ] }
 
-  module _ {j : Verdict} (l : from < end) (g : Judges text s end top j) where
-    pub by-judged : (j.number ≡ 0 → j.word ≡ 0 → ⊥) → JudgesBy text s from end top j
-    by-judged n = judges-by l g.fits (λ sc c sh f h e. within-passes c (λ v. cond (eqb v 0) false true) (judge text sc c)
-        (λ z. rw (ne_eqb j.word 0 (n z))) (g.by sc from c sh f h e))
+  module _ (l : from < end) where
+    pub by-refused : {e : Refused} → Judges text s end top (Err e) → JudgesBy text s from end top (Err e)
+    by-refused g = judges-by l g.fits (λ sc c sh f h e. within-refused c some_word (judge text sc c) (g.by sc from c sh f h e))
 
-    pub by_zero : {p e₂ : ℕ} → j.number ≡ 0 → j.word ≡ 0 → e₂ ≡ end - 2 → p ≡ get_or s e₂ 0 → p < 2 ^ 32
-        → JudgesBy text s from end top (record { word = 0; number = 11; place = p })
-    by_zero n w q e f = judges-by l (f, omega arith) (λ sc c sh fine h en. within-fails c (λ v. cond (eqb v 0) false true) (judge text sc c)
-        (λ z. n) (rw (eq-eqb j.word 0 w)) (rw (e, q, place-there c fine h en)) (g.by sc from c sh fine h en))
+    module _ {v : ℕ} (g : Judges text s end top (Ok v)) where
+      pub by-judged : (v ≡ 0 → ⊥) → JudgesBy text s from end top (Ok v)
+      by-judged n = judges-by l tt (λ sc c sh f h e. within-passes c some_word (judge text sc c) (rw (ne_eqb v 0 n)) (g.by sc from c sh f h e))
+
+      pub by_zero : {p e₂ : ℕ} → v ≡ 0 → e₂ ≡ end - 2 → p ≡ get_or s e₂ 0 → p < 2 ^ 32
+          → JudgesBy text s from end top (Err (record { place = p; fault = F.Constant }))
+      by_zero w q e f = judges-by l (f, omega arith) (λ sc c sh fine h en. within-fails c some_word (judge text sc c)
+          (rw (eq-eqb v 0 w)) (rw (e, q, place-there c fine h en)) (g.by sc from c sh fine h en))
 
 -- ---- the loop over items
 

@@ -2,12 +2,16 @@
 use Rattle.laws.proofs.Basics.{ℕ, zero, suc, ◌+◌, ◌-◌, ◌*◌, ◌/◌, ◌%◌, ◌<◌, ◌≤◌, min, ◌≡◌, refl, sym, ap, ◌∙◌, List, [], ◌∷◌, Bool, true, false, cond}
 use Rattle.laws.proofs.Basics.{length, get_or, set, take, drop, length-set, length-take, length-drop, get_or-drop, get_or-set_same, get_or-set_other}
 use Rattle.laws.proofs.Basics.{eqb}
-use Rattle.laws.proofs.Basics.{arith, eq-eqb, ne_eqb}
+use Rattle.laws.proofs.Basics.{leb, arith, eq-eqb, ne_eqb, eqb-true, eqb-false, leb-true, leb-false, List·getD-eq-default}
 use Rattle.laws.proofs.Cases.{by_cases, either}
+use Rattle.std.specs.Prelude.{Option, Some}
 use native.Mathlib.Numerals.{unary_clauses}
+use lib.Pointwise.{pointwise}
 use Rattle.compiler.proofs.Language.{Name, Meaning, local, global, manifest, function, Found, unknown, known, Scope, opened, declared, lookup}
 use Rattle.compiler.proofs.Language.{in_block, same_bytes, same_name, FineName}
-use Rattle.compiler.specs.Scope.{named, name_at, packed, code, found, Worded, Shows, nothing, mark, name, Pushed, PushedName, Keeps}
+use Rattle.compiler.specs.declared.scope.Meaning as D
+use Rattle.compiler.specs.declared.scope.Meaning.TheVariants as M
+use Rattle.compiler.specs.Scope.{entry_of, code_of, named, name_at, packed, code, found, Worded, Shows, nothing, mark, name, Pushed, PushedName, Keeps}
 
 -- ---- spelling
 
@@ -35,15 +39,9 @@ module _ (text : List ℕ) (p q n : ℕ) where
   width : (p : ℕ) → length (take n (drop p text)) ≡ min n (length text - p)
   width p = rw (length-take n (drop p text), length-drop p text)
 
-  pub not-long : {a b : ℕ} → a ≡ min n (length text - p) → b ≡ min n (length text - q) → (a ≡ b → ⊥)
+  not-long : {a b : ℕ} → a ≡ min n (length text - p) → b ≡ min n (length text - q) → (a ≡ b → ⊥)
       → false ≡ same_bytes (take n (drop p text)) (take n (drop q text))
   not-long ea eb h = sym (same_bytes-length (take n (drop p text)) (take n (drop q text)) (λ e. h (ea ∙ sym (width p) ∙ e ∙ width q ∙ sym eb)))
-
-  pub long : {a b : ℕ} → a ≡ min n (length text - p) → b ≡ min n (length text - q) → a ≡ b
-      → same_bytes (take a (drop p text)) (take a (drop q text)) ≡ same_bytes (take n (drop p text)) (take n (drop q text))
-  long {a} ea eb h = let x : take a (drop p text) ≡ take n (drop p text) = rw (ea, spelt p) in let y : take a (drop q text) ≡ take n (drop q text)
-      = rw (h, eb, spelt q) in
-      rw (x, y)
 
 -- names of other widths, and of the same
 pub other_width : (text : List ℕ) (x place width : ℕ) → (x % 65536 ≡ width → ⊥)
@@ -77,17 +75,29 @@ module _ (text : List ℕ) (p q i : ℕ) (h : 1 ≤ i) (hp : p + i ≤ length te
   whole : same_bytes (take i (drop p text)) (take i (drop q text)) ≡ same_bytes (take (suc (i - 1)) (drop p text)) (take (suc (i - 1)) (drop q text))
   whole = ap (λ (k : ℕ). same_bytes (take k (drop p text)) (take k (drop q text))) last
 
-  pub one_fewer : get_or text (p + (i - 1)) 0 ≡ get_or text (q + (i - 1)) 0
-      → same_bytes (take i (drop p text)) (take i (drop q text)) ≡ same_bytes (take (i - 1) (drop p text)) (take (i - 1) (drop q text))
-  one_fewer e = whole ∙ last_byte (i - 1) (drop p text) (drop q text) (within p hp) (within q hq) ∙ rw (eq-eqb _ _ (sym (byte p) ∙ e ∙ byte q))
-
-  pub differs : (get_or text (p + (i - 1)) 0 ≡ get_or text (q + (i - 1)) 0 → ⊥) → false ≡ same_bytes (take i (drop p text)) (take i (drop q text))
+  differs : (get_or text (p + (i - 1)) 0 ≡ get_or text (q + (i - 1)) 0 → ⊥) → false ≡ same_bytes (take i (drop p text)) (take i (drop q text))
   differs e = sym (whole ∙ last_byte (i - 1) (drop p text) (drop q text) (within p hp) (within q hq)
       ∙ rw (ne_eqb _ _ (λ z. e (byte p ∙ z ∙ sym (byte q)))))
 
-pub all-passed : (x y : List ℕ) (i : ℕ) → i ≤ 0 → true ≡ same_bytes (take i x) (take i y)
+-- what the slices' own test says
+tested : (x y : List ℕ) → pointwise eqb x y ≡ same_bytes x y
 unfolding same_bytes
-all-passed x y i h = let e : i ≡ 0 = omega arith in rw e
+tested [] [] = refl
+tested [] (b ∷ y) = refl
+tested (a ∷ x) [] = refl
+tested (a ∷ x) (b ∷ y) = by_cases (eqb a b) (λ e. rw (e, tested x y)) (λ e. rw e)
+
+pub bytes-test : (x y : List ℕ) {r : Bool} → r ≡ pointwise eqb x y → r ≡ same_bytes x y
+bytes-test x y e = e ∙ tested x y
+
+-- where the last bytes differ, the bytes do: where one reaches past the end, so does the other, or their widths differ
+pub other_last : (text : List ℕ) (p q n : ℕ) → 0 < n → (get_or text (p + (n - 1)) 0 ≡ get_or text (q + (n - 1)) 0 → ⊥)
+    → false ≡ same_bytes (take n (drop p text)) (take n (drop q text))
+other_last text p q n h e = by_cases (eqb (min n (length text - p)) (min n (length text - q))) (λ w. let same = eqb-true _ _ w in
+    by_cases (leb (p + n) (length text)) (λ a. let fits = leb-true _ _ a in
+    differs text p q n (omega arith) (omega arith) (omega arith) e) (λ a. let past = leb-false _ _ a in
+    absurd (e (List·getD-eq-default text 0 {n = p + (n - 1)} (omega arith) ∙ sym (List·getD-eq-default text 0 {n = q + (n - 1)} (omega arith))))))
+    (λ w. not-long text p q n refl refl (eqb-false _ _ w))
 
 -- ---- looking up
 
@@ -97,6 +107,16 @@ code-not (local k) e = omega arith
 code-not (global k) e = omega arith
 code-not (manifest k) e = omega arith
 code-not (function k) e = omega arith
+
+-- what the code says of a name, by its kind
+pub code-some : {m : Option D.Meaning} {w v : D.Meaning} → m ≡ Some w → w ≡ v → code_of m ≡ entry_of v
+code-some e q = rw (e, q)
+
+pub entry-not : (w : D.Meaning) → entry_of w ≡ 0 → ⊥
+entry-not (M.Local k) e = omega arith
+entry-not (M.Global k) e = omega arith
+entry-not (M.Manifest k) e = omega arith
+entry-not (M.Function k) e = omega arith
 
 -- what a code means, by its remainder
 abbrev meant : (n remainder : ℕ) → Meaning

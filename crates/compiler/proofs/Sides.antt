@@ -1,5 +1,5 @@
 -- Monadic operators, what @ may take, and left sides.
-use Rattle.laws.proofs.Basics.{ℕ, ◌+◌, ◌-◌, ◌*◌, ◌/◌, ◌%◌, ◌<◌, ◌≤◌, ◌≡◌, refl, sym, ap, subst, ◌∙◌, List, [], ◌∷◌, ◌++◌, append_assoc, append-nil}
+use Rattle.laws.proofs.Basics.{ℕ, ◌+◌, ◌-◌, ◌*◌, ◌%◌, ◌<◌, ◌≤◌, ◌≡◌, refl, sym, ap, subst, ◌∙◌, List, [], ◌∷◌, ◌++◌, append_assoc, append-nil}
 use Rattle.laws.proofs.Basics.{Bool, true, false, cond, length, get_or, length-append, eqb, ltb, arith, ne_eqb, ltb-true, ltb-false}
 use Rattle.laws.proofs.Cases.{by_cases, contradiction}
 use Rattle.items.specs.Item as I
@@ -134,22 +134,22 @@ Of say name place m t t' st r = (x : Here) (f : N.Found) → m ≡ found f → D
 
 module _ (say : Here → Side → ℕ → Code) (i : ℕ → I.Item) where
   pub of-local : ((x : Here) (k n : ℕ) → say x (side (R.to_local k)) n ≡ record { items = i k ∷ []; heights = []; labels = 0 }) → (name place : ℕ)
-      {m : ℕ} {t t' : List ℕ} {st r : State} → m % 4 ≡ 1 → Emits (i (m / 4) ∷ []) [] t t' st r → Of say name place m t t' st r
+      {j : ℕ} {t t' : List ℕ} {st r : State} → Emits (i j ∷ []) [] t t' st r → Of say name place (j * 4 + 1) t t' st r
   unfolding found code side_of
-  of-local es name place {m} q f x N.unknown e = absurd (omega arith)
-  of-local es name place {m} q f x (N.known (N.local k)) e = let z : m / 4 ≡ k = omega arith in emits-did _ f (λ n. rw (es x k n, z))
-  of-local es name place {m} q f x (N.known (N.global k)) e = absurd (omega arith)
-  of-local es name place {m} q f x (N.known (N.manifest k)) e = absurd (omega arith)
-  of-local es name place {m} q f x (N.known (N.function k)) e = absurd (omega arith)
+  of-local es name place {j} f x N.unknown e = absurd (omega arith)
+  of-local es name place {j} f x (N.known (N.local k)) e = let z : j ≡ k = omega arith in emits-did _ f (λ n. rw (es x k n, z))
+  of-local es name place {j} f x (N.known (N.global k)) e = absurd (omega arith)
+  of-local es name place {j} f x (N.known (N.manifest k)) e = absurd (omega arith)
+  of-local es name place {j} f x (N.known (N.function k)) e = absurd (omega arith)
 
   pub of-global : ((x : Here) (k n : ℕ) → say x (side (R.to_global k)) n ≡ record { items = i k ∷ []; heights = []; labels = 0 }) → (name place : ℕ)
-      {m : ℕ} {t t' : List ℕ} {st r : State} → m % 4 ≡ 2 → Emits (i (m / 4) ∷ []) [] t t' st r → Of say name place m t t' st r
+      {j : ℕ} {t t' : List ℕ} {st r : State} → Emits (i j ∷ []) [] t t' st r → Of say name place (j * 4 + 2) t t' st r
   unfolding found code side_of
-  of-global es name place {m} q f x N.unknown e = absurd (omega arith)
-  of-global es name place {m} q f x (N.known (N.local k)) e = absurd (omega arith)
-  of-global es name place {m} q f x (N.known (N.global k)) e = let z : m / 4 ≡ k = omega arith in emits-did _ f (λ n. rw (es x k n, z))
-  of-global es name place {m} q f x (N.known (N.manifest k)) e = absurd (omega arith)
-  of-global es name place {m} q f x (N.known (N.function k)) e = absurd (omega arith)
+  of-global es name place {j} f x N.unknown e = absurd (omega arith)
+  of-global es name place {j} f x (N.known (N.local k)) e = absurd (omega arith)
+  of-global es name place {j} f x (N.known (N.global k)) e = let z : j ≡ k = omega arith in emits-did _ f (λ n. rw (es x k n, z))
+  of-global es name place {j} f x (N.known (N.manifest k)) e = absurd (omega arith)
+  of-global es name place {j} f x (N.known (N.function k)) e = absurd (omega arith)
 
 module _ (say : Here → Side → ℕ → Code) (name place : ℕ) {m : ℕ} {t t' : List ℕ} {st r : State} where
   pub of-unknown : {a : State} → m ≡ 0 → Faulted name 8 st a → Faulted place 10 a r → t' ≡ t → Of say name place m t t' st r

@@ -1,7 +1,8 @@
 -- The text of the globals in which functions start: one function by its label, and all in turn.
 use Rattle.laws.proofs.Basics.{ℕ, suc, ◌+◌, ◌<◌, ◌≤◌, ◌≡◌, refl, sym, ap, ◌∙◌, List, [], ◌∷◌, ◌++◌, append_assoc, append-nil, length, get_or}
 use Rattle.laws.proofs.Basics.{length-append, List·getD-eq-default, ltb, add-zero, arith, ltb-true, ltb-false}
-use Rattle.laws.proofs.Cases.{by_cases}
+use Rattle.std.specs.Prelude.{Option, Some, None}
+use Rattle.laws.proofs.Cases.{by_cases, contradiction}
 use Rattle.items.specs.Item as I
 use Rattle.language.specs.Resolved.{Start, nowhere, in_global, Fun}
 use Rattle.code.specs.Generate.{start_in, starts_code}
@@ -23,20 +24,21 @@ passed-next {n = n} e f p = record {
   none = λ m h q. by_cases (ltb m n) (λ l. p.none m (ltb-true m n l) q) (λ l. let z : m ≡ n = omega (arith, ltb-false m n l) in f (cc));
 }
 
-pub passed-found : {table : List ℕ} {label n k : ℕ} → n < 400 → k ≡ get_or table n 0 → k ≡ label → FindsGlobal table label n
-passed-found h e f = record { is = λ _. sym e ∙ f; none = λ l. absurd (omega arith) }
+pub passed-found : {table : List ℕ} {label n k : ℕ} → n < 400 → k ≡ get_or table n 0 → k ≡ label → FindsGlobal table label (Some n)
+passed-found {n = n} h e f =
+    record { is = λ m q. let z : n ≡ m = cc in (omega arith, rw (← z) (sym e ∙ f)); none = λ l. contradiction cc }
 
-pub passed-end : {table : List ℕ} {label n : ℕ} → 400 ≤ n → Passed table label n → FindsGlobal table label 400
-passed-end h p = record { is = λ l. absurd (omega arith); none = λ _ m l e. p.none m (omega arith) e }
+pub passed-end : {table : List ℕ} {label n : ℕ} → 400 ≤ n → Passed table label n → FindsGlobal table label None
+passed-end h p = record { is = λ m l. contradiction cc; none = λ _ m l e. p.none m (omega arith) e }
 
 -- ---- one function
 
-pub start-put : {table : List ℕ} {label n at r : ℕ} {t t' : List ℕ} → FindsGlobal table label n → n < 400
+pub start-put : {table : List ℕ} {label n at r : ℕ} {g : Option ℕ} {t t' : List ℕ} → FindsGlobal table label g → g ≡ Some n
     → Appends (line (I.global n label)) at r t t' → WritesStart table label at r t t'
 unfolding lines
-start-put {table} {label} {n} f h p = record { by = λ start s. rw (s.is n h (f.is h)) (appends-as p (append-nil (line (I.global n label)))) }
+start-put {table} {label} {n} f h p = record { by = λ start s. rw (s.is n (f.is n h).0 (f.is n h).1) (appends-as p (append-nil (line (I.global n label)))) }
 
-pub start_none : {table : List ℕ} {label n at : ℕ} {t : List ℕ} → FindsGlobal table label n → 400 ≤ n → WritesStart table label at at t t
+pub start_none : {table : List ℕ} {label at : ℕ} {g : Option ℕ} {t : List ℕ} → FindsGlobal table label g → g ≡ None → WritesStart table label at at t t
 unfolding lines
 start_none f h = record { by = elim [ nowhere ↦ λ s. appends-none | in_global m ↦ λ s. absurd (let q = s.has m refl in f.none h m q.0 q.1) ] }
 

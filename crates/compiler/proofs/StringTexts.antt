@@ -30,18 +30,18 @@ pub four_bytes : {a b c d at x y z r : ℕ} {t t₁ t₂ t₃ t₄ : List ℕ} �
 four_bytes p q u v = appends-then p (appends-then q (appends-then u v))
 
 module _ {c at r : ℕ} {t t' : List ℕ} where
-  pub plain-low : c < 32 → Appends (42 ∷ (48 + c / 100) ∷ (48 + c / 10 % 10) ∷ (48 + c % 10) ∷ []) at r t t' → Appends (plain_text c) at r t t'
+  pub plain_low : c < 32 → Appends (42 ∷ (48 + c / 100) ∷ (48 + c / 10 % 10) ∷ (48 + c % 10) ∷ []) at r t t' → Appends (plain_text c) at r t t'
   unfolding plain_text
-  plain-low h p = appends-as p (rw (lt-leb 32 c h))
+  plain_low h p = appends-as p (rw (lt-leb 32 c h))
 
-  pub plain-high : 32 ≤ c → 126 < c → Appends (42 ∷ (48 + c / 100) ∷ (48 + c / 10 % 10) ∷ (48 + c % 10) ∷ []) at r t t'
+  pub plain_high : 32 ≤ c → 126 < c → Appends (42 ∷ (48 + c / 100) ∷ (48 + c / 10 % 10) ∷ (48 + c % 10) ∷ []) at r t t'
       → Appends (plain_text c) at r t t'
   unfolding plain_text
-  plain-high l h p = appends-as p (rw (le-leb 32 c l, lt-leb c 126 h))
+  plain_high l h p = appends-as p (rw (le-leb 32 c l, lt-leb c 126 h))
 
-  pub plain-itself : 32 ≤ c → c ≤ 126 → Appends (c ∷ []) at r t t' → Appends (plain_text c) at r t t'
+  pub plain_itself : 32 ≤ c → c ≤ 126 → Appends (c ∷ []) at r t t' → Appends (plain_text c) at r t t'
   unfolding plain_text
-  plain-itself l h p = appends-as p (rw (le-leb 32 c l, le-leb c 126 h))
+  plain_itself l h p = appends-as p (rw (le-leb 32 c l, le-leb c 126 h))
 
 pub no-escape : {c : ℕ} → Unlike c (34 ∷ 42 ∷ 13 ∷ 12 ∷ 8 ∷ 9 ∷ 10 ∷ []) → Escapes c 0
 unfolding character_text
@@ -155,13 +155,13 @@ symbols-none : (count : ℕ) (s : List ℕ) (i : ℕ) → count ≤ i → symbol
 unfolding symbols_from decoded
 symbols-none count s i h = let z : count - i ≡ 0 = omega arith in rw z
 
-pub one_if-yes : {kind : ℕ} → kind ≡ STRING → 1 ≡ one_if kind
+pub one_if_yes : {kind : ℕ} → kind ≡ STRING → 1 ≡ one_if kind
 unfolding one_if
-one_if-yes {kind} e = rw (eq-eqb kind STRING e)
+one_if_yes {kind} e = rw (eq-eqb kind STRING e)
 
-pub one_if-no : {kind : ℕ} → (kind ≡ STRING → ⊥) → 0 ≡ one_if kind
+pub one_if_no : {kind : ℕ} → (kind ≡ STRING → ⊥) → 0 ≡ one_if kind
 unfolding one_if
-one_if-no {kind} e = rw (ne_eqb kind STRING e)
+one_if_no {kind} e = rw (ne_eqb kind STRING e)
 
 pub one_if-small : (kind : ℕ) → one_if kind ≤ 1
 unfolding one_if

@@ -12,7 +12,7 @@ use Rattle.language.specs.Names as N
 use Rattle.code.specs.Generate as G
 use Rattle.compiler.proofs.Vocabulary.{State, Node, FineC, FineCs, NodeAt, Emits, Holds, Verdict, label_faults, ReadyLabels, WritesTable}
 use Rattle.compiler.specs.declared.labels.Span.{Span}
-use Rattle.compiler.specs.Locals.{Says, says_good, says_refused, Judges}
+use Rattle.compiler.specs.Locals.{word_of, Says, says_good, says_refused, Judges}
 use Rattle.compiler.specs.Labels as L
 use Rattle.compiler.specs.Labels.{a_case, a_default, Row, no_more, and_more, NextItem, LabelAt, CommandAt, Spans, Listed, marks, flat, case_items}
 use Rattle.compiler.specs.Labels.{CountsLabel, CountsAll, HasDefault, default_among, FindsDefault, Sound, no_label, any_default, table_among, Still}
@@ -112,14 +112,14 @@ module _ {A : Type 0} (K : Holding A) where
 
 -- ---- a CASE counts
 
-pub one-case-is : {s : List ℕ} {end i k : ℕ} → i ≡ end - 1 → k ≡ get_or s i 0 → k ≡ 28 → CountsLabel s end 1
+pub one_case_is : {s : List ℕ} {end i k : ℕ} → i ≡ end - 1 → k ≡ get_or s i 0 → k ≡ 28 → CountsLabel s end 1
 unfolding case_items
-one-case-is {s} {end} ei ek q = let z : get_or s (end - 1) 0 ≡ 28 = cc in
+one_case_is {s} {end} ei ek q = let z : get_or s (end - 1) 0 ≡ 28 = cc in
     record { few = omega arith; by = of-label (λ l. 1 ≡ case_items (l ∷ [])) (λ p lo c a e h en f. refl) (λ p a e. absurd (omega arith)) }
 
-pub one-case-not : {s : List ℕ} {end i k : ℕ} → i ≡ end - 1 → k ≡ get_or s i 0 → (k ≡ 28 → ⊥) → CountsLabel s end 0
+pub one_case_not : {s : List ℕ} {end i k : ℕ} → i ≡ end - 1 → k ≡ get_or s i 0 → (k ≡ 28 → ⊥) → CountsLabel s end 0
 unfolding case_items
-one-case-not ei ek q = record {
+one_case_not ei ek q = record {
   few = omega arith;
   by = of-label (λ l. 0 ≡ case_items (l ∷ [])) (λ p lo c a e h en f. absurd (q (rw (ek, ei, a)))) (λ p a e. refl);
 }
@@ -214,9 +214,9 @@ pub record IsGood (j : Judged) : Type 0 where
 first_good : {text : List ℕ} {sc : Scope} {p : ℕ} {c : Constant} {ls : List Label} → Sound text sc (T.case p c ∷ ls) → IsGood (judge text sc c)
 first_good (L.good_case v w so) = record { value = v; is = w }
 
-says_is : {j : Verdict} {x : Judged} {v : ℕ} → Says j x → x ≡ good v → x ≡ good j.word
-says_is (says_good q) e = refl
-says_is (says_refused a b w) e = contradiction cc
+says_is : {j : Verdict} {x : Judged} {v : ℕ} → Says j x → x ≡ good v → x ≡ good (word_of j)
+says_is says_good e = refl
+says_is says_refused e = contradiction cc
 
 module _ (text : List ℕ) {s : List ℕ} {end top : ℕ} (n : Node) (nd : NodeAt s end n) where
   pub pair-not : {k : ℕ} {t : List ℕ} {st : State} → (n.kind ≡ 28 → ⊥) → WritesPair text s end top k t t st st
@@ -227,14 +227,14 @@ module _ (text : List ℕ) {s : List ℕ} {end top : ℕ} (n : Node) (nd : NodeA
         (λ p lo c a e h en f so. absurd (q (nd.kind ∙ a))) (λ p a e so. emits_none) l;
   }
 
-  pub pair_is : {k : ℕ} {t t₁ t₂ : List ℕ} {st a r : State} {j : Verdict} → n.kind ≡ 28 → Judges text s n.inner top j
-      → Emits (G.D j.word ∷ []) [] t t₁ st a → Emits (G.DL k ∷ []) [] t₁ t₂ a r → WritesPair text s end top k t t₂ st r
+  pub pair_is : {k : ℕ} {t t₁ t₂ : List ℕ} {st a r : State} {j : Verdict} {w : ℕ} → n.kind ≡ 28 → Judges text s n.inner top j → w ≡ word_of j
+      → Emits (G.D w ∷ []) [] t t₁ st a → Emits (G.DL k ∷ []) [] t₁ t₂ a r → WritesPair text s end top k t t₂ st r
   unfolding labels_of G.pairs_of
-  pair_is {k = k} {t = t} {t₂ = t₂} {st = st} {r = r} q g d e = record {
+  pair_is {k = k} {t = t} {t₂ = t₂} {st = st} {r = r} q g ew d e = record {
     still = still-then (emits-still d) (emits-still e);
     by = λ sc l sh. of-label (λ l. Sound text sc (l ∷ []) → Emits (G.pairs_of k (labels_of text sc (l ∷ []))) [] t t₂ st r)
-        (λ p lo c a z h en f so. let w = first_good so in
-        emits-as (emits_then d e) (sym (rw (says_is (g.by sc lo c sh f h (nd.inner ∙ en)) w.is))))
+        (λ p lo c a z h en f so. let so-good = first_good so in
+        emits-as (emits_then d e) (sym (rw (says_is (g.by sc lo c sh f h (nd.inner ∙ en)) so-good.is, ew))))
         (λ p a z so. absurd (omega arith)) l;
   }
 

@@ -25,4 +25,5 @@ unfoldable pub use Rattle.compiler.specs.Groups.{Small, function_count, inner_la
 pub use Rattle.compiler.specs.Programs.{GaveDeclaration, GaveProgram, ReadyDeclaration, ReadyProgram, Stands, Yields, declared_word}
 pub use Rattle.compiler.specs.Programs.{encode_declared}
 unfoldable pub use Rattle.compiler.specs.Programs.{starts_of}
-pub use Rattle.compiler.specs.declared.steps.Verdict.{Verdict}
+pub use Rattle.compiler.specs.declared.steps.Refused.{Refused}
+pub use Rattle.compiler.specs.Locals.{Verdict}

@@ -11,10 +11,9 @@ use Rattle.compiler.specs.Walks.{Holds}
 use Rattle.compiler.specs.Walked.{Did}
 use Rattle.compiler.specs.Commands.{nothing}
 use Rattle.compiler.specs.declared.steps.State.{State}
-use Rattle.compiler.specs.declared.steps.Verdict.{Verdict}
 use Rattle.language.specs.Fine.{FineConstant, FineItems}
 use Rattle.compiler.specs.Fine.{STRINGS}
-use Rattle.compiler.specs.Locals.{Says}
+use Rattle.compiler.specs.Locals.{Verdict, Says, Fitting, word_of}
 use Rattle.language.specs.Program.{globals_after, manifests_after, global_faults, manifest_faults}
 use Rattle.compiler.specs.declared.outer.Known.{Known}
 
@@ -38,8 +37,8 @@ FineIs is = FineItems STRINGS is
 pub record JudgesItem (g : Bool) (text s : List ℕ) (end top : ℕ) (r : Verdict) : Type 0 where
   pub by : (sc : Scope) (lo : ℕ) (c : T.Constant) → Shows s top sc → FineConstant c → Holds s lo (encode_constant c)
       → end ≡ lo + length (encode_constant c) → Says r (judged g text sc c)
-  pub fits : (r.place < 2 ^ 32) × (r.number < 32)
-  pub low : r.word < 2 ^ 30
+  pub fits : Fitting r
+  pub low : word_of r < 2 ^ 30
 
 pub record ReadyItems (s : List ℕ) (from end top : ℕ) : Type 0 where
   pub base : ℕ

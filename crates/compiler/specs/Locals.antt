@@ -1,5 +1,6 @@
 -- Constants and declarations of locals.
-use Rattle.std.specs.Prelude.{ℕ, ◌+◌, ◌*◌, ◌-◌, ◌≤◌, ◌<◌, ◌^◌, ◌≡◌, Bool, List, [], ◌∷◌, ◌++◌, length, get_or, leb}
+use Rattle.std.specs.Prelude.{ℕ, ◌+◌, ◌*◌, ◌-◌, ◌≤◌, ◌<◌, ◌^◌, ◌≡◌, Bool, List, [], ◌∷◌, ◌++◌, length, get_or, leb, Result, Ok, Err}
+use Rattle.text.specs.Faults.{number_of}
 use Rattle.language.specs.Tree as T
 use Rattle.language.specs.Tree.{Name, Constant, Expressions}
 use Rattle.language.proofs.Depth.{expressions_depth, locals_depth}
@@ -16,7 +17,7 @@ use Rattle.compiler.specs.Scope.{Shows, Keeps, found}
 use Rattle.compiler.specs.declared.steps.State.{State}
 use Rattle.compiler.specs.declared.steps.Here.{Here}
 use Rattle.compiler.specs.declared.steps.Placed.{Placed}
-use Rattle.compiler.specs.declared.steps.Verdict.{Verdict}
+use Rattle.compiler.specs.declared.steps.Refused.{Refused}
 use Rattle.compiler.specs.Walked.{leavable, Did, Code}
 use Rattle.compiler.specs.Fine.{FineEs, FineLs}
 use Rattle.language.specs.Fine.{FineName, FineNames, FineConstant}
@@ -25,31 +26,45 @@ use Rattle.compiler.specs.Commands.{nothing}
 
 -- ---- constants
 
+-- a constant's word, or what is refused in it
+abbrev pub Verdict : Type 0
+Verdict = Result ℕ Refused
+
+-- the word, with 0 where it is refused
+abbrev pub word_of : Verdict → ℕ
+word_of (Ok v) = v
+word_of (Err e) = 0
+
+-- its place and number fit the one number of a refusal
+abbrev pub Fitting : Verdict → Type 0
+Fitting (Ok v) = Unit {0}
+Fitting (Err e) = (e.place < 2 ^ 32) × (number_of e.fault < 32)
+
 -- what a verdict says
-pub data Says (r : Verdict) : Judged → Type 0 where
-  says_good : r.number ≡ 0 → Says r (good r.word)
-  says_refused : {number : ℕ} → r.number ≡ number → (number ≡ 0 → ⊥) → r.word ≡ 0 → Says r (refused (fault r.place number))
+pub data Says : Verdict → Judged → Type 0 where
+  says_good : {v : ℕ} → Says (Ok v) (good v)
+  says_refused : {e : Refused} → Says (Err e) (refused (fault e.place (number_of e.fault)))
 
 pub record NamedConstant (m : ℕ) (minus : Bool) (name place : ℕ) (r : Verdict) : Type 0 where
   pub by : (c : Constant) (n : Name) (f : N.Found) → m ≡ found f → c.minus ≡ minus → c.place ≡ place → n.place ≡ name → Says r (of_found c n f)
-  pub fits : (r.place < 2 ^ 32) × (r.number < 32)
-  pub low : r.word < 2 ^ 30
+  pub fits : Fitting r
+  pub low : word_of r < 2 ^ 30
 
 -- whatever constant ends there
 pub record Judges (text s : List ℕ) (end top : ℕ) (r : Verdict) : Type 0 where
   pub by : (sc : Scope) (lo : ℕ) (c : Constant) → Shows s top sc → FineConstant c → Holds s lo (encode_constant c)
       → end ≡ lo + length (encode_constant c) → Says r (judge text sc c)
-  pub fits : (r.place < 2 ^ 32) × (r.number < 32)
+  pub fits : Fitting r
   -- it is a meaning's word
-  pub low : r.word < 2 ^ 30
+  pub low : word_of r < 2 ^ 30
 
 -- 11 where it is greater than that
 pub record JudgesMost (most : ℕ) (text s : List ℕ) (end top : ℕ) (r : Verdict) : Type 0 where
   pub by : (sc : Scope) (lo : ℕ) (c : Constant) → Shows s top sc → FineConstant c → Holds s lo (encode_constant c)
       → end ≡ lo + length (encode_constant c)
       → Says r (within c (λ v. leb v most) (judge text sc c))
-  pub fits : (r.place < 2 ^ 32) × (r.number < 32)
-  pub small : r.word ≤ most
+  pub fits : Fitting r
+  pub small : word_of r ≤ most
 
 pub record Blames (j : Verdict) (st st' : State) : Type 0 where
   pub by : (x : Judged) → Says j x → (t : List ℕ) → Did (faults_of x) nothing 0 t t st st'

@@ -1,5 +1,5 @@
 -- What is written behind the functions: the strings, and the globals in which functions start.
-use Rattle.std.specs.Prelude.{ℕ, suc, ◌≤◌, ◌<◌, ◌≡◌, cond, List, [], ◌∷◌, length, get_or, drop, eqb}
+use Rattle.std.specs.Prelude.{ℕ, suc, ◌<◌, ◌≡◌, cond, List, [], ◌∷◌, length, get_or, drop, eqb, Option, Some, None}
 use Rattle.items.specs.Item as I
 use Rattle.items.specs.Render.{plain_text, character_text, characters_text}
 use Rattle.text.specs.Quoted.{closed, characters_of, quoted}
@@ -56,10 +56,10 @@ pub record WritesSymbol (source : List ℕ) (kind place label at at' : ℕ) (t t
 pub record WritesStrings (source s : List ℕ) (count label at at' : ℕ) (t t' : List ℕ) : Type 0 where
   pub by : AllEnd source (decoded count s) → Appends (lines (strings_code label (strings_among source (decoded count s)))) at at' t t'
 
--- the global whose entry is a label
-pub record FindsGlobal (table : List ℕ) (label n : ℕ) : Type 0 where
-  pub is : n < 400 → get_or table n 0 ≡ label
-  pub none : 400 ≤ n → (m : ℕ) → m < 400 → get_or table m 0 ≡ label → ⊥
+-- the global whose entry is a label, if there is one
+pub record FindsGlobal (table : List ℕ) (label : ℕ) (r : Option ℕ) : Type 0 where
+  pub is : (n : ℕ) → r ≡ Some n → (n < 400) × (get_or table n 0 ≡ label)
+  pub none : r ≡ None → (m : ℕ) → m < 400 → get_or table m 0 ≡ label → ⊥
 
 -- a function's start, by its label
 pub record StartsAt (table : List ℕ) (label : ℕ) (start : Start) : Type 0 where

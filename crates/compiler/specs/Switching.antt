@@ -13,13 +13,12 @@ use Rattle.code.specs.Generate as G
 use Rattle.tree.specs.Encoding.{encode_commands, encode_labels, encode_by}
 use Rattle.compiler.specs.Scope.{Shows}
 use Rattle.compiler.specs.declared.steps.State.{State}
-use Rattle.compiler.specs.declared.steps.Verdict.{Verdict}
 use Rattle.language.specs.Fine.{FineLabels, FineBy}
 use Rattle.compiler.specs.Fine.{FineCs}
 use Rattle.compiler.specs.Walked.{Did, Emits}
 use Rattle.compiler.specs.Walks.{Holds}
 use Rattle.compiler.specs.Commands.{nothing}
-use Rattle.compiler.specs.Locals.{Says}
+use Rattle.compiler.specs.Locals.{Verdict, Says, Fitting}
 
 -- refusals 8, 11 and 12 of the labels alone, after those before
 unfoldable pub label_faults : List ℕ → Scope → (before : List Label) → Commands → List Fault
@@ -79,4 +78,4 @@ by_judged text s (some c) = for_by text s c
 pub record JudgesBy (text s : List ℕ) (from end top : ℕ) (r : Verdict) : Type 0 where
   pub by : (sc : Scope) (k : Option Constant) → Shows s top sc → FineBy k → Holds s from (encode_by k) → end ≡ from + length (encode_by k)
       → Says r (by_judged text sc k)
-  pub fits : (r.place < 2 ^ 32) × (r.number < 32)
+  pub fits : Fitting r

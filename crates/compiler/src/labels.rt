@@ -8,33 +8,32 @@ ghost use Rattle.compiler.specs.Labels.{WritesPair, WritesPairs, WritesAll, Note
 
 use crate::kinds::{CASE, LABELLED};
 use crate::scope::entry;
-use crate::steps::{State, Verdict, blame, judge, minus, node_at, put, wrong};
+use crate::steps::{Refused, State, blame, judge, node_at, put, word_of, wrong};
+use text::Fault;
 use writing::{Base, label_word, word};
 
 // The constant of BY between `from` and `end`; 1 where there is none.
-pub(crate) fn by_constant(source: &[u8], s: &[u32], from: usize, end: usize, top: usize) -> Verdict
+pub(crate) fn by_constant(
+    source: &[u8],
+    s: &[u32],
+    from: usize,
+    end: usize,
+    top: usize,
+) -> Result<usize, Refused>
     requires { end < 2 ^ 32 }
     ensures { JudgesBy source.now s.now from end top result }
 {
     if end <= from {
-        return Verdict {
-            word: 1,
-            number: 0,
-            place: 0,
-        };
+        return Ok(1);
     }
-    let j = judge(source, s, end, top);
-    if j.number != 0 {
-        return j;
+    let word = judge(source, s, end, top)?;
+    if word == 0 {
+        return Err(Refused {
+            place: entry(s, end.saturating_sub(2)),
+            fault: Fault::Constant,
+        });
     }
-    if j.word != 0 {
-        return j;
-    }
-    Verdict {
-        word: 0,
-        number: 11,
-        place: entry(s, minus(end, 2)),
-    }
+    Ok(word)
 }
 
 // Where the labels before a command stand.
@@ -44,16 +43,13 @@ pub struct Span {
     pub to: usize,
 }
 
-// Where the item at `at` ends.
+// Where the item at `at` ends. The loops below walk the same items with other acts, some with text, flags or a count beside the state: one
+// walk over a closure would need what each says as the closure's contract, and be no plainer.
 fn next_item(s: &[u32], at: usize, end: usize) -> usize
     requires { (at < end) × (end < 2 ^ 32) }
     ensures { NextItem s.now at end result }
 {
-    let next = at + 2 + entry(s, at);
-    if next < end {
-        return next;
-    }
-    end
+    end.min(at + 2 + entry(s, at))
 }
 
 // The labels of the command that ends there.
@@ -69,10 +65,7 @@ fn labels_of(s: &[u32], end: usize) -> Span
     if n.inner < to {
         return Span { from: 0, to: 0 };
     }
-    Span {
-        from: n.start,
-        to: to,
-    }
+    Span { from: n.start, to }
 }
 
 // 12 at a label, and what is refused in its constant.
@@ -81,7 +74,7 @@ fn misplaced_label(source: &[u8], s: &[u32], end: usize, top: usize, st: State) 
     ensures { MisplacesLabel source.now s.now end top st result }
 {
     let n = node_at(s, end);
-    let a = wrong(st, n.place, 12);
+    let a = wrong(st, n.place, Fault::Case);
     if n.kind != CASE {
         return a;
     }
@@ -103,6 +96,7 @@ pub(crate) fn misplaced(
 {
     let mut at = from;
     let mut r = st;
+    // goes on by each item's size
     while at < end {
         let next = next_item(s, at, end);
         r = misplaced_label(source, s, next, top, r);
@@ -112,10 +106,11 @@ pub(crate) fn misplaced(
 }
 
 // How many labels are CASE: of one, of several, and of those before commands.
+#[tactic(auto, using(crate::proofs::Switching::one_case_is, crate::proofs::Switching::one_case_not))]
 fn one_case(s: &[u32], end: usize) -> usize
     ensures { CountsLabel s.now end result }
 {
-    if entry(s, minus(end, 1)) == CASE {
+    if entry(s, end.saturating_sub(1)) == CASE {
         1
     } else {
         0
@@ -128,6 +123,7 @@ fn count_cases(s: &[u32], from: usize, end: usize) -> usize
 {
     let mut at = from;
     let mut n = 0;
+    // goes on by each item's size
     while at < end {
         let next = next_item(s, at, end);
         n += one_case(s, next);
@@ -142,6 +138,7 @@ fn count_all(s: &[u32], from: usize, end: usize) -> usize
 {
     let mut at = from;
     let mut n = 0;
+    // goes on by each item's size
     while at < end {
         let next = next_item(s, at, end);
         let l = labels_of(s, next);
@@ -157,6 +154,7 @@ fn has_default(s: &[u32], from: usize, end: usize) -> bool
     ensures { HasDefault s.now from end result }
 {
     let mut at = from;
+    // goes on by each item's size
     while at < end {
         let next = next_item(s, at, end);
         if one_case(s, next) == 0 {
@@ -174,6 +172,7 @@ fn default_of(s: &[u32], from: usize, end: usize, first: usize, done: usize) -> 
 {
     let mut at = from;
     let mut k = first;
+    // goes on by each item's size
     while at < end {
         let next = next_item(s, at, end);
         let l = labels_of(s, next);
@@ -186,21 +185,24 @@ fn default_of(s: &[u32], from: usize, end: usize, first: usize, done: usize) -> 
     done
 }
 
-// A word, and one that is a label's address.
+// A word, and one that is a label's address. Each is one call of `writing`, as `put` and `mark` are: one function that is told which to call
+// would be no plainer.
 fn put_word(text: &mut [u8], st: State, n: usize) -> State
     ensures { Emits (G.D n ∷ []) [] text.old text.new st result }
 {
-    let mut r = st;
-    r.at = word(text, st.at, n);
-    r
+    State {
+        at: word(text, st.at, n),
+        ..st
+    }
 }
 
 fn put_address(text: &mut [u8], st: State, n: usize) -> State
     ensures { Emits (G.DL n ∷ []) [] text.old text.new st result }
 {
-    let mut r = st;
-    r.at = label_word(text, st.at, n);
-    r
+    State {
+        at: label_word(text, st.at, n),
+        ..st
+    }
 }
 
 // A CASE's number with its command's label.
@@ -221,7 +223,7 @@ fn pair(
         return st;
     }
     let j = judge(source, s, n.inner, top);
-    let a = put_word(text, st, j.word);
+    let a = put_word(text, st, word_of(j));
     put_address(text, a, k)
 }
 
@@ -241,6 +243,7 @@ fn pairs(
 {
     let mut at = from;
     let mut r = st;
+    // goes on by each item's size
     while at < end {
         let next = next_item(s, at, end);
         r = pair(source, s, next, top, text, r, k);
@@ -265,6 +268,7 @@ fn all_pairs(
     let mut at = from;
     let mut k = first;
     let mut r = st;
+    // goes on by each item's size
     while at < end {
         let next = next_item(s, at, end);
         let l = labels_of(s, next);
@@ -300,28 +304,7 @@ pub(crate) fn table(
 
 // Flag v is 1 where a good CASE v was met in the list, flag 65536 where DEFAULT was: none yet. There are eight in a byte, since their
 // room stands in the frames of the walk, once for each level of commands.
-fn no_marks() -> [u8; 8193]
-    ensures { result ≡ replicate 8193 0 }
-{
-    [0u8; 8193]
-}
-
-// 2 to the power k.
-fn power(k: usize) -> usize
-    requires { k < 8 }
-    ensures { (result ≡ 2 ^ k) × (1 ≤ result) × (result ≤ 128) }
-{
-    match k {
-        0 => 1,
-        1 => 2,
-        2 => 4,
-        3 => 8,
-        4 => 16,
-        5 => 32,
-        6 => 64,
-        _ => 128,
-    }
-}
+const MARKS: usize = 8193;
 
 // A flag is set, or it is already: 12.
 fn note(seen: &mut [u8], i: usize, place: usize, st: State) -> State
@@ -329,15 +312,14 @@ fn note(seen: &mut [u8], i: usize, place: usize, st: State) -> State
     ensures { Notes i place seen.old seen.new st result }
 {
     let at = i / 8;
-    if at < seen.len() {
-        let x = seen[at] as usize;
-        let p = power(i % 8);
-        if x / p % 2 == 0 {
-            seen[at] = (x + p) as u8;
-            return st;
-        }
-        return wrong(st, place, 12);
+    if seen.len() <= at {
+        return st;
     }
+    let mark = 1 << (i % 8);
+    if seen[at] / mark % 2 == 1 {
+        return wrong(st, place, Fault::Case);
+    }
+    seen[at] += mark;
     st
 }
 
@@ -358,10 +340,10 @@ fn doubled_label(
         return note(seen, 65536, n.place, st);
     }
     let j = judge(source, s, n.inner, top);
-    if j.number != 0 {
-        return blame(st, j);
+    match j {
+        Ok(word) => note(seen, word, n.place, st),
+        Err(_) => blame(st, j),
     }
-    note(seen, j.word, n.place, st)
 }
 
 // The labels before a command.
@@ -379,6 +361,7 @@ fn doubled_in(
 {
     let mut at = from;
     let mut r = st;
+    // goes on by each item's size
     while at < end {
         let next = next_item(s, at, end);
         r = doubled_label(source, s, next, top, seen, r);
@@ -399,9 +382,10 @@ pub(crate) fn doubled(
     requires { end < 2 ^ 32 }
     ensures { JudgesLabels source.now s.now from end top st result }
 {
-    let mut seen = no_marks();
+    let mut seen = [0u8; MARKS];
     let mut at = from;
     let mut r = st;
+    // goes on by each item's size
     while at < end {
         let next = next_item(s, at, end);
         let l = labels_of(s, next);

@@ -34,7 +34,7 @@ const NONE: usize = 137438953472;
 // How deep a tree may be.
 const DEPTH: usize = 520;
 
-// Zeros from a place on.
+// Zeros from a place on: symbols' `clear_from` for bytes. One for both, generic over the entry, would have to be given the zero: no plainer.
 fn clear_text(text: &mut [u8], from: usize)
     ensures { text.new ≡ take from text.old ++ replicate (length text.old - from) 0 }
 {
@@ -138,7 +138,7 @@ fn walked(
     let d = Done {
         tall: NONE,
         state: State {
-            at: at,
+            at,
             label: functions + 1 + names,
             worst: NONE,
             high: 0,

@@ -1,20 +1,20 @@
 // The outermost level: GLOBAL and MANIFEST, the names of a group of functions, and a function.
-ghost use Rattle.std.specs.Prelude.{◌≡◌, Bool, List, [], ◌∷◌, ℕ, suc, ◌+◌, ◌*◌, ◌-◌, ◌≤◌, ◌<◌, ◌^◌, length, get_or};
+ghost use Rattle.std.specs.Prelude.{◌≡◌, ◌≢◌, ◌%◌, MatchOption, Bool, List, [], ◌∷◌, ℕ, suc, ◌+◌, ◌*◌, ◌-◌, ◌≤◌, ◌<◌, ◌^◌, length, get_or};
 ghost use Rattle.language.specs.Fine.{FineName};
-ghost use Rattle.compiler.specs.Scope.{code, name_at};
+ghost use Rattle.compiler.specs.Scope.{code, name_at, entry_of, code_of};
 ghost use Rattle.compiler.specs.Walks.{ReadyE, GaveE};
 ghost use Rattle.compiler.specs.Commands.{ReadyC, GaveC};
 ghost use Rattle.compiler.specs.Items.{meaning, JudgesItem, Items, ReadyItems};
 ghost use Rattle.compiler.specs.Groups.{NameFaults, Enters, ReadyGroup, GroupNames, ReadyBody, GaveBody, ReadyF, GaveF, CountsFunctions};
-ghost use Rattle.compiler.specs.Groups.{CountsGroup};
 
 use crate::kinds::{EQUAL, GLOBAL, LET};
-use crate::scope::{entry, in_block, lookup, push, push_name};
+use crate::scope::{Meaning, entry, in_block, lookup, push, push_name};
 use crate::steps::{
-    Here, State, Verdict, Ways, again, blame, declare, judge, judge_most, mark, node_at, put,
-    reached, wrong,
+    Here, Refused, State, Ways, again, blame, count, declare, judge, judge_most, mark, node_at,
+    put, reached, word_of, wrong,
 };
 use crate::walk::{command, expr};
+use text::Fault;
 use writing::Base;
 
 // What is done, and the end of the names in scope.
@@ -27,7 +27,13 @@ pub struct Known {
 // ---- GLOBAL and MANIFEST
 
 // The constant of an item, of GLOBAL or of MANIFEST.
-fn item_constant(source: &[u8], s: &[u32], end: usize, top: usize, global: bool) -> Verdict
+fn item_constant(
+    source: &[u8],
+    s: &[u32],
+    end: usize,
+    top: usize,
+    global: bool,
+) -> Result<usize, Refused>
     requires { end < 2 ^ 32 }
     ensures { JudgesItem global source.now s.now end top result }
 {
@@ -37,14 +43,14 @@ fn item_constant(source: &[u8], s: &[u32], end: usize, top: usize, global: bool)
     judge(source, s, end, top)
 }
 
-fn meaning(global: bool, v: usize) -> usize
-    requires { v < 2 ^ 30 }
-    ensures { result ≡ code (meaning global v) }
+fn meaning(global: bool, v: usize) -> Meaning
+    ensures { entry_of result ≡ code (meaning global v) }
 {
     if global {
-        return v * 4 + 2;
+        Meaning::Global(v)
+    } else {
+        Meaning::Manifest(v)
     }
-    v * 4 + 3
 }
 
 // Items from `from` on, each known from its end on.
@@ -63,6 +69,7 @@ pub(crate) fn items(
     let mut at = from;
     let mut k = 0;
     let mut r = st;
+    // goes on by each item's size
     while at < end {
         let next = at + 2 + entry(s, at);
         let c = item_constant(source, s, next, top + 2 * k, global);
@@ -70,7 +77,7 @@ pub(crate) fn items(
         let place = entry(s, at + 4);
         let a = blame(r, c);
         r = again(a, m, place);
-        push_name(s, top + 2 * k, at + 2, meaning(global, c.word));
+        push_name(s, top + 2 * k, at + 2, meaning(global, word_of(c)));
         k += 1;
         at = next;
     }
@@ -83,37 +90,61 @@ pub(crate) fn items(
 // ---- functions
 
 // 9 at a function's name: it is known and no global, or its global is taken.
-fn name_fault(table: &[u32], st: State, m: usize, place: usize) -> State
+fn name_fault(table: &[u32], st: State, m: Option<Meaning>, place: usize) -> State
     requires { (place < 2 ^ 32) × (length table.now ≡ 400) }
-    ensures { NameFaults table.now m place st result }
+    ensures { NameFaults table.now (code_of m) place st result }
 {
-    if m == 0 {
-        return st;
-    }
-    if m % 4 == 2 {
-        if entry(table, m / 4) == 0 {
-            return st;
+    match m {
+        None => st,
+        Some(Meaning::Global(n)) => {
+            if entry(table, n) == 0 {
+                return st;
+            }
+            wrong(st, place, Fault::NameTwice)
         }
-        return wrong(st, place, 9);
+        Some(Meaning::Local(_)) => wrong(st, place, Fault::NameTwice),
+        Some(Meaning::Manifest(_)) => wrong(st, place, Fault::NameTwice),
+        Some(Meaning::Function(_)) => wrong(st, place, Fault::NameTwice),
     }
-    wrong(st, place, 9)
+}
+
+// The global that is meant, if it is one.
+fn global_in(m: Option<Meaning>) -> Option<usize>
+    ensures { MatchOption result (code_of m % 4 ≢ 2) (λ n. code_of m ≡ n * 4 + 2) }
+{
+    match m {
+        Some(Meaning::Global(n)) => Some(n),
+        None => None,
+        Some(Meaning::Local(_)) => None,
+        Some(Meaning::Manifest(_)) => None,
+        Some(Meaning::Function(_)) => None,
+    }
 }
 
 // A function's name: it starts in its global, or it is known from here on. The names' end.
-fn enter(s: &mut [u32], table: &mut [u32], top: usize, leaf: usize, m: usize, k: usize) -> usize
+fn enter(
+    s: &mut [u32],
+    table: &mut [u32],
+    top: usize,
+    leaf: usize,
+    m: Option<Meaning>,
+    k: usize,
+) -> usize
     requires { (top + 2 ≤ length s.old) × (leaf < 2 ^ 32) × (k < 2 ^ 29) × FineName (name_at s.old leaf) }
-    ensures { Enters s.old s.new table.old table.new top leaf m k result }
+    ensures { Enters s.old s.new table.old table.new top leaf (code_of m) k result }
 {
-    if m % 4 == 2 {
-        let n = m / 4;
-        if n < table.len() {
-            table[n] = (k + 1) as u32;
-            return top;
+    match global_in(m) {
+        Some(n) => {
+            if n < table.len() {
+                table[n] = (k + 1) as u32;
+            }
+            top
         }
-        return top;
+        None => {
+            push_name(s, top, leaf, Meaning::Function(k));
+            top + 2
+        }
     }
-    push_name(s, top, leaf, k * 4 + 4);
-    top + 2
 }
 
 // The names of a group, before any of its functions is walked.
@@ -135,6 +166,7 @@ pub(crate) fn group_names(
     let mut k = before;
     let mut now_top = top;
     let mut r = st;
+    // goes on by each item's size
     while at < end {
         let next = at + 2 + entry(s, at);
         let m = lookup(source, s, now_top, at + 2);
@@ -171,10 +203,12 @@ pub(crate) fn function(
     push(s, here.top, 0, 0);
     let b = declare(source, s, first, last, here.top + 2, 2, a);
     let c = reached(b, 2 + many);
-    let mut x = here;
-    x.top = here.top + 2 + 2 * many;
-    x.height = 2 + many;
-    x.routine = n.kind != EQUAL;
+    let x = Here {
+        top: here.top + 2 + 2 * many,
+        height: 2 + many,
+        routine: n.kind != EQUAL,
+        ..here
+    };
     let d = body(source, s, n.inner, text, x, c, n.kind);
     put(text, d, 7, false, Base::Plain, 4)
 }
@@ -211,20 +245,6 @@ fn body(
     )
 }
 
-// How many functions a group has.
-pub(crate) fn group_count(s: &[u32], from: usize, end: usize) -> usize
-    requires { end < 2 ^ 32 }
-    ensures { CountsGroup s.now from end result × (result ≤ end - from) }
-{
-    let mut at = from;
-    let mut n = 0;
-    while at < end {
-        at = at + 2 + entry(s, at);
-        n += 1;
-    }
-    n
-}
-
 // How many functions there are: the strings' labels follow theirs.
 pub(crate) fn function_count(s: &[u32], from: usize, end: usize) -> usize
     requires { end < 2 ^ 32 }
@@ -232,12 +252,11 @@ pub(crate) fn function_count(s: &[u32], from: usize, end: usize) -> usize
 {
     let mut at = from;
     let mut n = 0;
+    // goes on by each item's size
     while at < end {
         let next = at + 2 + entry(s, at);
-        if entry(s, at + 1) == LET {
-            if next <= end {
-                n += group_count(s, at + 2, next);
-            }
+        if entry(s, at + 1) == LET && next <= end {
+            n += count(s, at + 2, next);
         }
         at = next;
     }

@@ -8,9 +8,9 @@ ghost use Rattle.compiler.specs.Items.{ReadyItems};
 ghost use Rattle.compiler.specs.Programs.{NamedItems, ReadyDeclaration, GaveDeclaration, ReadyProgram, GaveProgram};
 
 use crate::kinds::{GLOBAL, LET};
-use crate::outer::{function, group_count, group_names, items};
+use crate::outer::{function, group_names, items};
 use crate::scope::entry;
-use crate::steps::{Here, State};
+use crate::steps::{Here, State, count};
 
 // What is done, and the least refusal 16, as place * 32 + 16.
 #[derive(Clone, Copy, Drop)]
@@ -20,26 +20,20 @@ pub struct Done {
 }
 
 // The least 16.
+#[tactic(auto, using(crate::proofs::FunctionLists::tall_new, crate::proofs::FunctionLists::tall_low))]
 fn too_tall(tall: usize, high: usize, place: usize) -> usize
     requires { place < 2 ^ 32 }
     ensures { result ≡ least tall (cond (ltb 8192 high) (fault place 16) []) }
 {
     let key = place * 32 + 16;
-    if 8192 < high {
-        if key < tall {
-            return key;
-        }
-    }
-    tall
+    if 8192 < high { tall.min(key) } else { tall }
 }
 
 // The heights of the next function are its own.
 fn level(st: State) -> State
     ensures { result ≡ record { at = st.at; label = st.label; worst = st.worst; high = 0 } }
 {
-    let mut r = st;
-    r.high = 0;
-    r
+    State { high: 0, ..st }
 }
 
 // The functions of a group, whose names are known, with their labels from `label` on.
@@ -60,6 +54,7 @@ fn group(
     let mut l = label;
     let mut r = d.state;
     let mut tall = d.tall;
+    // goes on by each item's size
     while at < end {
         let next = at + 2 + entry(s, at);
         let a = function(source, s, next, text, here, r, l);
@@ -69,10 +64,7 @@ fn group(
         l += 1;
         at = next;
     }
-    Done {
-        tall: tall,
-        state: r,
-    }
+    Done { tall, state: r }
 }
 
 // Where the declarations stand: the end of the names in scope, how many functions there were, and what is done.
@@ -98,11 +90,11 @@ fn named(
     let k = items(source, s, from, end, l.top, global, l.done.state);
     Progress {
         top: k.top,
-        functions: l.functions,
         done: Done {
-            tall: l.done.tall,
             state: level(k.state),
+            ..l.done
         },
+        ..l
     }
 }
 
@@ -122,7 +114,7 @@ fn functions(
     ensures { GaveDeclaration source.now s.old s.new table.old table.new
         from end K.LET left strings text.old text.new l result }
 {
-    let n = group_count(s, from, end);
+    let n = count(s, from, end);
     let k = group_names(
         source,
         s,
@@ -142,13 +134,13 @@ fn functions(
         Here {
             top: k.top,
             height: 0,
-            left: left,
-            strings: strings,
+            left,
+            strings,
             routine: false,
         },
         Done {
-            tall: l.done.tall,
             state: level(k.state),
+            ..l.done
         },
         l.functions + 1,
     );
@@ -204,6 +196,7 @@ pub(crate) fn program(
         functions: 0,
         done: d,
     };
+    // goes on by each item's size
     while at < end {
         let next = at + 2 + entry(s, at);
         let tag = entry(s, at + 1);

@@ -1,102 +1,87 @@
 // The names in scope, on a stack at the front of scratch: two entries each, the name's place and width as one number, and what the name
 // means as a number; or two zeros where a block opens. The tree stands behind the stack and never changes.
-ghost use Rattle.std.specs.Prelude.{◌≡◌, Bool, ℕ, ◌+◌, ◌*◌, ◌-◌, ◌/◌, ◌%◌, ◌≤◌, ◌<◌, ◌^◌, min, length, get_or, take, drop};
+ghost use Rattle.std.specs.Prelude.{◌≡◌, Bool, ℕ, ◌+◌, ◌*◌, ◌-◌, ◌/◌, ◌%◌, ◌≤◌, ◌<◌, ◌^◌, length, get_or, take, drop};
 ghost use Rattle.language.specs.Names.{same_bytes, same_name};
 ghost use Rattle.language.specs.Fine.{FineName};
-ghost use Rattle.compiler.specs.Scope.{named, name_at, Looked, Told, Pushed, PushedName};
+ghost use Rattle.compiler.specs.Scope.{named, name_at, entry_of, code_of, Looked, Told, Pushed, PushedName};
 
-use crate::steps::minus;
+// What a name means: a local by its height, a global by its number, a manifest by its value, a function by its number from 0.
+// Where several kinds are treated alike each has an arm of its own: in one arm for several, the proof is not told which they are.
+#[derive(Clone, Copy)]
+pub enum Meaning {
+    Local(usize),
+    Global(usize),
+    Manifest(usize),
+    Function(usize),
+}
+
+// The same as it stands in lent scratch, as a number that is not 0.
+fn encode(m: Meaning) -> usize
+    requires { entry_of m < 2 ^ 32 }
+    ensures { result ≡ entry_of m }
+{
+    match m {
+        Meaning::Local(k) => k * 4 + 1,
+        Meaning::Global(n) => n * 4 + 2,
+        Meaning::Manifest(v) => v * 4 + 3,
+        Meaning::Function(k) => k * 4 + 4,
+    }
+}
+
+fn decode(n: usize) -> Meaning
+    requires { 0 < n }
+    ensures { entry_of result ≡ n }
+{
+    match n % 4 {
+        1 => Meaning::Local(n / 4),
+        2 => Meaning::Global(n / 4),
+        3 => Meaning::Manifest(n / 4),
+        _ => Meaning::Function(n / 4 - 1),
+    }
+}
 
 // An entry of scratch; past its end, 0.
 pub(crate) fn entry(s: &[u32], i: usize) -> usize
     ensures { (result ≡ get_or s.now i 0) × (result < 2 ^ 32) }
 {
-    if i < s.len() { s[i] as usize } else { 0 }
+    s.get(i).copied().unwrap_or(0) as usize
 }
 
-// How many of n bytes from p on stand in a text of that length.
-fn within(length: usize, p: usize, n: usize) -> usize
-    ensures { result ≡ min n (length - p) }
-{
-    if length <= p {
-        return 0;
-    }
-    if n < length - p { n } else { length - p }
-}
-
-// A byte of the source; past its end, 0.
-fn byte_at(source: &[u8], i: usize) -> usize
-    ensures { result ≡ get_or source.now i 0 }
-{
-    if i < source.len() {
-        source[i] as usize
-    } else {
-        0
-    }
-}
-
-// The last byte of so many at a place.
-fn last_byte(source: &[u8], place: usize, n: usize) -> usize
+// The last byte of so many at a place; past the end of the source, 0.
+fn last_byte(source: &[u8], place: usize, n: usize) -> u8
     requires { (place < 2 ^ 32) × (n < 2 ^ 32) }
     ensures { result ≡ get_or source.now (place + (n - 1)) 0 }
 {
-    byte_at(source, place + minus(n, 1))
+    let at = place + n.saturating_sub(1);
+    source.get(at).copied().unwrap_or(0)
 }
 
-// Whether so many bytes at two places of the source are the same.
-fn same(source: &[u8], p: usize, q: usize, n: usize) -> bool
-    requires { (n ≤ length source.now - p) × (n ≤ length source.now - q) }
-    ensures { result ≡ same_bytes (take n (drop p source.now)) (take n (drop q source.now)) }
+// So many bytes of the source from a place on, as far as it goes.
+fn part(source: &[u8], place: usize, n: usize) -> &[u8]
+    ensures { result.now ≡ take n (drop place source.now) }
 {
-    let mut i = n;
-    while i > 0 {
-        i -= 1;
-        if source[p + i] != source[q + i] {
-            return false;
-        }
-    }
-    true
+    let rest = &source[place.min(source.len())..];
+    &rest[..n.min(rest.len())]
 }
 
-// The same where they may reach past the source.
-fn cut(source: &[u8], p: usize, q: usize, n: usize) -> bool
-    ensures { result ≡ same_bytes (take n (drop p source.now)) (take n (drop q source.now)) }
-{
-    let size = within(source.len(), p, n);
-    if size != within(source.len(), q, n) {
-        return false;
-    }
-    same(source, p, q, size)
-}
-
-// The same, quick where they do not: `last` is the last byte at `q`, and names that differ mostly do in that.
-fn alike(source: &[u8], p: usize, q: usize, n: usize, last: usize) -> bool
+// Whether so many bytes at two places of the source are the same: `last` is the last byte at `q`, and names that differ mostly do in that.
+fn alike(source: &[u8], p: usize, q: usize, n: usize, last: u8) -> bool
     requires { (p < 2 ^ 32) × (q < 2 ^ 32) × (n < 2 ^ 32) × (last ≡ get_or source.now (q + (n - 1)) 0) }
     ensures { result ≡ same_bytes (take n (drop p source.now)) (take n (drop q source.now)) }
 {
-    if source.len() < p + n {
-        return cut(source, p, q, n);
+    if n > 0 && last_byte(source, p, n) != last {
+        return false;
     }
-    if source.len() < q + n {
-        return cut(source, p, q, n);
-    }
-    if n > 0 {
-        if source[p + (n - 1)] as usize != last {
-            return false;
-        }
-    }
-    same(source, p, q, n)
+    part(source, p, n) == part(source, q, n)
 }
 
 // Whether a name of the stack is spelt like one of that place, width and last byte.
-fn spelt(source: &[u8], name: usize, place: usize, width: usize, last: usize) -> bool
+#[tactic(auto, using(crate::proofs::Scoping::other_width, crate::proofs::Scoping::same_width))]
+fn spelt(source: &[u8], name: usize, place: usize, width: usize, last: u8) -> bool
     requires { (name < 2 ^ 32) × (place < 2 ^ 32) × (width < 2 ^ 32) × (last ≡ get_or source.now (place + (width - 1)) 0) }
     ensures { result ≡ same_name source.now (named (name / 65536) (name % 65536)) (named place width) }
 {
-    if name % 65536 != width {
-        return false;
-    }
-    alike(source, name / 65536, place, width, last)
+    name % 65536 == width && alike(source, name / 65536, place, width, last)
 }
 
 // An entry of the stack.
@@ -107,13 +92,14 @@ fn stacked(s: &[u32], i: usize) -> usize
     s[i] as usize
 }
 
-// What a leaf's name means, as a number, and 0 if it is unknown: blocks from the innermost out, and the names of each.
-pub(crate) fn lookup(source: &[u8], s: &[u32], top: usize, leaf: usize) -> usize
+// What a leaf's name means, if it is known: blocks from the innermost out, and the names of each. Nested labelled loops, the form that
+// document 01 names.
+pub(crate) fn lookup(source: &[u8], s: &[u32], top: usize, leaf: usize) -> Option<Meaning>
     requires { leaf < 2 ^ 32 }
-    ensures { Looked source.now s.now top leaf result × (result < 2 ^ 32) }
+    ensures { Looked source.now s.now top leaf (code_of result) × (code_of result < 2 ^ 32) }
 {
     if s.len() < top {
-        return 0;
+        return None;
     }
     let width = entry(s, leaf + 1);
     let place = entry(s, leaf + 2);
@@ -122,7 +108,7 @@ pub(crate) fn lookup(source: &[u8], s: &[u32], top: usize, leaf: usize) -> usize
     'search: loop {
         loop {
             if at < 2 {
-                return 0;
+                return None;
             }
             at -= 2;
             if stacked(s, at + 1) == 0 {
@@ -133,32 +119,33 @@ pub(crate) fn lookup(source: &[u8], s: &[u32], top: usize, leaf: usize) -> usize
             }
         }
     }
-    stacked(s, at + 1)
+    Some(decode(stacked(s, at + 1)))
 }
 
-// What a leaf's name means in the innermost block itself, and 0 if it is not there.
-pub(crate) fn in_block(source: &[u8], s: &[u32], top: usize, leaf: usize) -> usize
+// What a leaf's name means in the innermost block itself, if it is there.
+pub(crate) fn in_block(source: &[u8], s: &[u32], top: usize, leaf: usize) -> Option<Meaning>
     requires { leaf < 2 ^ 32 }
-    ensures { Told source.now s.now top leaf result }
+    ensures { Told source.now s.now top leaf (code_of result) }
 {
     if s.len() < top {
-        return 0;
+        return None;
     }
     let width = entry(s, leaf + 1);
     let place = entry(s, leaf + 2);
     let last = last_byte(source, place, width);
     let mut at = top;
+    // goes down by two entries, as in `lookup`
     while at >= 2 {
         at -= 2;
         let m = stacked(s, at + 1);
         if m == 0 {
-            return 0;
+            return None;
         }
         if spelt(source, stacked(s, at), place, width, last) {
-            return m;
+            return Some(decode(m));
         }
     }
-    0
+    None
 }
 
 // Puts two entries on the stack.
@@ -171,11 +158,11 @@ pub(crate) fn push(s: &mut [u32], top: usize, first: usize, second: usize)
 }
 
 // Puts a leaf's name on the stack, with what it means.
-pub(crate) fn push_name(s: &mut [u32], top: usize, leaf: usize, m: usize)
-    requires { (top + 2 ≤ length s.old) × (leaf < 2 ^ 32) × (m < 2 ^ 32) × FineName (name_at s.old leaf) }
-    ensures { PushedName s.old s.new top leaf m }
+pub(crate) fn push_name(s: &mut [u32], top: usize, leaf: usize, m: Meaning)
+    requires { (top + 2 ≤ length s.old) × (leaf < 2 ^ 32) × (entry_of m < 2 ^ 32) × FineName (name_at s.old leaf) }
+    ensures { PushedName s.old s.new top leaf (entry_of m) }
 {
     let width = entry(s, leaf + 1);
     let place = entry(s, leaf + 2);
-    push(s, top, place * 65536 + width, m);
+    push(s, top, place * 65536 + width, encode(m));
 }

@@ -1,5 +1,7 @@
 // The single steps of the walk: what was done so far and where it stands, nodes of the tree, items written, names and constants.
 ghost use Rattle.std.specs.Prelude.{◌≡◌, Bool, true, false, cond, eqb, List, [], ◌∷◌, ◌++◌, ℕ, ◌+◌, ◌*◌, ◌-◌, ◌≤◌, ◌<◌, ◌^◌, length, get_or};
+ghost use Rattle.text.specs.Faults.{number_of};
+ghost use Rattle.compiler.specs.Scope.{code_of};
 ghost use Rattle.items.specs.Item as I;
 ghost use Rattle.items.specs.Answers.{base_of};
 ghost use Rattle.code.specs.Generate as G;
@@ -14,16 +16,18 @@ ghost use Rattle.compiler.specs.Commands.{ReadyC, GaveC, ReadyU, GaveU, WhenKind
 ghost use Rattle.compiler.specs.Commands.{GaveMonadic, GaveAddress, GaveAddressIndex, GaveSide, GaveSideIndex, GaveRefused, IndexKind};
 ghost use Rattle.compiler.specs.Commands.{AddressOf, StoreTo, GoesAway};
 ghost use Rattle.compiler.specs.Assigns.{ReadyAssign, GaveAssign};
-ghost use Rattle.compiler.specs.Locals.{NamedConstant, Judges, JudgesMost, Blames, ReadyLocal, GaveLocal, ReadyLocals, GaveLocals, VectorKind};
+ghost use Rattle.compiler.specs.Locals.{NamedConstant, Judges, JudgesMost, Blames, Fitting, word_of, ReadyLocal, GaveLocal, ReadyLocals, GaveLocals, VectorKind};
 
 use crate::kinds::{
     AMPERSAND, ATLEAST, ATMOST, BAR, BREAK, ENDCASE, EQUAL, LEFT, LESS, LOOP, MINUS, MORE, NAME,
     NUMBER, PLUS, REM, REPEATWHILE, RETURN, RIGHT, SLASH, STAR, UNEQUAL,
 };
-use crate::scope::{entry, in_block, lookup, push_name};
+use crate::scope::{Meaning, entry, in_block, lookup, push_name};
+use text::Fault;
 use writing::{Base, instruction, label, labelled};
 
-// What was done so far: bytes of text, labels, the least refusal as place * 32 + number, and the greatest height.
+// What was done so far: bytes of text, labels, the least refusal as place * 32 + number, and the greatest height. The refusal stays one
+// number, and NONE for none, since the definitions `Did` and `least` (specs/Walked) say it of that number, and they may not change.
 #[derive(Clone, Copy, Drop)]
 pub struct State {
     pub at: usize,
@@ -43,7 +47,8 @@ pub struct Here {
     pub routine: bool,
 }
 
-// The labels to which BREAK, LOOP, ENDCASE and RESULTIS go; 0 where there is none.
+// The labels to which BREAK, LOOP, ENDCASE and RESULTIS go; 0 where there is none, as the definition of these ways out (code's `Exits`)
+// has it.
 #[derive(Clone, Copy, Drop)]
 pub struct Ways {
     pub after: usize,
@@ -60,12 +65,11 @@ pub struct Placed {
     pub done: State,
 }
 
-// A constant's word, with no refusal (number 0), or a refusal and its place, with the word 0.
+// What is refused in a constant, and where.
 #[derive(Clone, Copy, Drop)]
-pub struct Verdict {
-    pub word: usize,
-    pub number: usize,
+pub struct Refused {
     pub place: usize,
+    pub fault: Fault,
 }
 
 // A node: where it starts, where what stands before its record ends, and the record.
@@ -78,38 +82,34 @@ pub struct Node {
     pub kind: usize,
 }
 
-// a - b, or 0.
-pub(crate) fn minus(a: usize, b: usize) -> usize
-    ensures { result ≡ a - b }
-{
-    if b < a { a - b } else { 0 }
-}
-
+#[tactic(auto, using(crate::proofs::Done::node_is))]
 pub(crate) fn node_at(s: &[u32], end: usize) -> Node
     ensures { NodeAt s.now end result }
 {
-    let inner = minus(end, 4);
+    let inner = end.saturating_sub(4);
     let size = entry(s, inner);
-    let start = minus(inner, size);
-    let value = entry(s, minus(end, 3));
-    let place = entry(s, minus(end, 2));
-    let kind = entry(s, minus(end, 1));
+    let start = inner.saturating_sub(size);
+    let value = entry(s, end.saturating_sub(3));
+    let place = entry(s, end.saturating_sub(2));
+    let kind = entry(s, end.saturating_sub(1));
     Node {
-        start: start,
-        inner: inner,
-        value: value,
-        place: place,
-        kind: kind,
+        start,
+        inner,
+        value,
+        place,
+        kind,
     }
 }
 
 // One level deeper.
+#[tactic(auto, using(crate::proofs::Done::inside_is))]
 pub(crate) fn inside(here: Here) -> Here
     ensures { result ≡ inside here }
 {
-    let mut r = here;
-    r.left = minus(here.left, 1);
-    r
+    Here {
+        left: here.left.saturating_sub(1),
+        ..here
+    }
 }
 
 // So much higher.
@@ -117,52 +117,52 @@ pub(crate) fn raised(here: Here, k: usize) -> Here
     requires { here.height + k < 2 ^ 64 }
     ensures { result ≡ raised k here }
 {
-    let mut r = here;
-    r.height = here.height + k;
-    r
+    Here {
+        height: here.height + k,
+        ..here
+    }
 }
 
 // An instruction with a number, and one with a label.
 pub(crate) fn put(text: &mut [u8], st: State, f: usize, i: bool, b: Base, n: usize) -> State
     ensures { Emits (I.instruction f i (base_of b) (I.number false n) ∷ []) [] text.old text.new st result }
 {
-    let mut r = st;
-    r.at = instruction(text, st.at, f, i, b, n);
-    r
+    State {
+        at: instruction(text, st.at, f, i, b, n),
+        ..st
+    }
 }
 
 pub(crate) fn put_to(text: &mut [u8], st: State, f: usize, n: usize) -> State
     ensures { Emits (G.to f n ∷ []) [] text.old text.new st result }
 {
-    let mut r = st;
-    r.at = labelled(text, st.at, f, n);
-    r
+    State {
+        at: labelled(text, st.at, f, n),
+        ..st
+    }
 }
 
 // A refusal.
-pub(crate) fn wrong(st: State, place: usize, number: usize) -> State
-    requires { (place < 2 ^ 32) × (number < 32) }
-    ensures { Faulted place number st result }
+#[tactic(auto, using(crate::proofs::Done::faulted_least))]
+pub(crate) fn wrong(st: State, place: usize, fault: Fault) -> State
+    requires { (place < 2 ^ 32) × (number_of fault < 32) }
+    ensures { Faulted place (number_of fault) st result }
 {
-    let key = place * 32 + number;
-    if key < st.worst {
-        let mut r = st;
-        r.worst = key;
-        return r;
+    State {
+        worst: st.worst.min(place * 32 + fault.number() as usize),
+        ..st
     }
-    st
 }
 
 // A height is reached.
+#[tactic(auto, using(crate::proofs::Done::reached_max))]
 pub(crate) fn reached(st: State, h: usize) -> State
     ensures { Reached h st result }
 {
-    if st.high < h {
-        let mut r = st;
-        r.high = h;
-        return r;
+    State {
+        high: st.high.max(h),
+        ..st
     }
-    st
 }
 
 // The value goes into the word at the height.
@@ -175,20 +175,16 @@ pub(crate) fn keep(text: &mut [u8], st: State, h: usize) -> State
 }
 
 // The value of a name, by what it means; 8 if it is unknown.
-pub(crate) fn value(text: &mut [u8], st: State, m: usize, place: usize) -> State
-    requires { place < 2 ^ 32 }
-    ensures { Means m place text.old text.new st result }
+pub(crate) fn value(text: &mut [u8], st: State, m: Option<Meaning>, place: usize) -> State
+    requires { (place < 2 ^ 32) × (code_of m < 2 ^ 32) }
+    ensures { Means (code_of m) place text.old text.new st result }
 {
-    match m % 4 {
-        1 => put(text, st, 0, true, Base::P, m / 4),
-        2 => put(text, st, 0, true, Base::G, m / 4),
-        3 => put(text, st, 0, false, Base::Plain, m / 4),
-        _ => {
-            if m == 0 {
-                return wrong(st, place, 8);
-            }
-            put_to(text, st, 0, m / 4)
-        }
+    match m {
+        None => wrong(st, place, Fault::UnknownName),
+        Some(Meaning::Local(k)) => put(text, st, 0, true, Base::P, k),
+        Some(Meaning::Global(n)) => put(text, st, 0, true, Base::G, n),
+        Some(Meaning::Manifest(v)) => put(text, st, 0, false, Base::Plain, v),
+        Some(Meaning::Function(k)) => put_to(text, st, 0, k + 1),
     }
 }
 
@@ -240,18 +236,20 @@ pub(crate) fn fresh(st: State, k: usize) -> State
     requires { st.label + k < 2 ^ 64 }
     ensures { Fresh k st result }
 {
-    let mut r = st;
-    r.label = st.label + k;
-    r
+    State {
+        label: st.label + k,
+        ..st
+    }
 }
 
 // A label.
 pub(crate) fn mark(text: &mut [u8], st: State, n: usize) -> State
     ensures { Emits (I.label n ∷ []) [] text.old text.new st result }
 {
-    let mut r = st;
-    r.at = label(text, st.at, n);
-    r
+    State {
+        at: label(text, st.at, n),
+        ..st
+    }
 }
 
 // In a VALOF that ends at that label.
@@ -272,7 +270,7 @@ pub(crate) fn leave(text: &mut [u8], st: State, to: usize, place: usize) -> Stat
     ensures { LeavesTo to place text.old text.new st result }
 {
     if to == 0 {
-        return wrong(st, place, 13);
+        return wrong(st, place, Fault::NothingToLeave);
     }
     put_to(text, st, 3, to)
 }
@@ -307,7 +305,7 @@ pub(crate) fn away(
         BREAK => leave(text, st, ways.after, place),
         LOOP => {
             if ways.after == 0 {
-                return wrong(st, place, 13);
+                return wrong(st, place, Fault::NothingToLeave);
             }
             put_to(text, st, 3, ways.next)
         }
@@ -316,7 +314,7 @@ pub(crate) fn away(
             if here.routine {
                 return put(text, st, 7, false, Base::Plain, 4);
             }
-            wrong(st, place, 13)
+            wrong(st, place, Fault::NothingToLeave)
         }
         _ => put(text, st, 7, false, Base::Plain, 22),
     }
@@ -327,11 +325,9 @@ pub(crate) fn tops(text: &mut [u8], st: State, first: usize, k: usize) -> State
     requires { first + 3 * k < 2 ^ 64 }
     ensures { Emits (tops_code first k) [] text.old text.new st result }
 {
-    let mut i = 0;
     let mut r = st;
-    while i < k {
+    for i in 0..k {
         r = mark(text, r, first + 3 * i);
-        i += 1;
     }
     r
 }
@@ -374,20 +370,18 @@ pub(crate) fn for_step(text: &mut [u8], st: State, h: usize, by: usize, n: usize
 pub(crate) fn in_switch(ways: Ways, end: usize) -> Ways
     ensures { result ≡ in_switch end ways }
 {
-    let mut r = ways;
-    r.done = end;
-    r
+    Ways { done: end, ..ways }
 }
 
 // 9 at a name that means something in its block already.
-pub(crate) fn again(st: State, m: usize, place: usize) -> State
+pub(crate) fn again(st: State, m: Option<Meaning>, place: usize) -> State
     requires { place < 2 ^ 32 }
-    ensures { Again m place st result }
+    ensures { Again (code_of m) place st result }
 {
-    if m == 0 {
-        return st;
+    match m {
+        None => st,
+        Some(_) => wrong(st, place, Fault::NameTwice),
     }
-    wrong(st, place, 9)
 }
 
 // Names, by their leaves, declared one after another at frame words from the height on.
@@ -403,53 +397,40 @@ pub(crate) fn declare(
     requires { ReadyNames s.old from end top height }
     ensures { Declares source.now s.old s.new from end top height st result }
 {
-    let mut at = from;
-    let mut k = 0;
     let mut r = st;
-    while at < end {
+    for k in 0..end.saturating_sub(from) / 4 {
+        let at = from + 4 * k;
         let m = in_block(source, s, top + 2 * k, at);
         let place = entry(s, at + 2);
         r = again(r, m, place);
-        push_name(s, top + 2 * k, at, (height + k) * 4 + 1);
-        k += 1;
-        at += 4;
+        push_name(s, top + 2 * k, at, Meaning::Local(height + k));
     }
     r
 }
 
-// The address of what a name means; 8 if it is unknown, 10 if it has none.
-pub(crate) fn name_address(text: &mut [u8], st: State, m: usize, name: usize, place: usize) -> State
+// What a name means, by the machine's function 0, which takes its address, or 1, by which A goes to it; 8 if it is unknown, 10 if it has no
+// address.
+pub(crate) fn name_word(
+    text: &mut [u8],
+    st: State,
+    function: usize,
+    m: Option<Meaning>,
+    name: usize,
+    place: usize,
+) -> State
     requires { (name < 2 ^ 32) × (place < 2 ^ 32) }
-    ensures { AddressOf m name place text.old text.new st result }
+    ensures { (function ≡ 0 → AddressOf (code_of m) name place text.old text.new st result)
+        × (function ≡ 1 → StoreTo (code_of m) name place text.old text.new st result) }
 {
-    match m % 4 {
-        1 => put(text, st, 0, false, Base::P, m / 4),
-        2 => put(text, st, 0, false, Base::G, m / 4),
-        _ => {
-            if m == 0 {
-                let a = wrong(st, name, 8);
-                return wrong(a, place, 10);
-            }
-            wrong(st, place, 10)
+    match m {
+        None => {
+            let a = wrong(st, name, Fault::UnknownName);
+            wrong(a, place, Fault::NoPlace)
         }
-    }
-}
-
-// A goes to what a name means; 8 if it is unknown, 10 if it is nothing to assign to.
-pub(crate) fn name_store(text: &mut [u8], st: State, m: usize, name: usize, place: usize) -> State
-    requires { (name < 2 ^ 32) × (place < 2 ^ 32) }
-    ensures { StoreTo m name place text.old text.new st result }
-{
-    match m % 4 {
-        1 => put(text, st, 1, false, Base::P, m / 4),
-        2 => put(text, st, 1, false, Base::G, m / 4),
-        _ => {
-            if m == 0 {
-                let a = wrong(st, name, 8);
-                return wrong(a, place, 10);
-            }
-            wrong(st, place, 10)
-        }
+        Some(Meaning::Local(k)) => put(text, st, function, false, Base::P, k),
+        Some(Meaning::Global(n)) => put(text, st, function, false, Base::G, n),
+        Some(Meaning::Manifest(_)) => wrong(st, place, Fault::NoPlace),
+        Some(Meaning::Function(_)) => wrong(st, place, Fault::NoPlace),
     }
 }
 
@@ -473,60 +454,56 @@ pub(crate) fn store_indexed(text: &mut [u8], st: State, h: usize) -> State
 }
 
 // What a name means, as a constant: `name` and `place` are the places of the name and of the constant.
-pub(crate) fn named_constant(m: usize, minus: bool, name: usize, place: usize) -> Verdict
-    requires { (name < 2 ^ 32) × (place < 2 ^ 32) × (m < 2 ^ 32) }
-    ensures { NamedConstant m minus name place result }
+pub(crate) fn named_constant(
+    m: Option<Meaning>,
+    minus: bool,
+    name: usize,
+    place: usize,
+) -> Result<usize, Refused>
+    requires { (name < 2 ^ 32) × (place < 2 ^ 32) × (code_of m < 2 ^ 32) }
+    ensures { NamedConstant (code_of m) minus name place result }
 {
-    if m == 0 {
-        return Verdict {
-            word: 0,
-            number: 8,
+    let other = Refused {
+        place,
+        fault: Fault::Constant,
+    };
+    match m {
+        None => Err(Refused {
             place: name,
-        };
-    }
-    if m % 4 == 3 {
-        return Verdict {
-            word: signed(minus, m / 4),
-            number: 0,
-            place: 0,
-        };
-    }
-    Verdict {
-        word: 0,
-        number: 11,
-        place: place,
+            fault: Fault::UnknownName,
+        }),
+        Some(Meaning::Manifest(v)) => Ok(signed(minus, v)),
+        Some(Meaning::Local(_)) => Err(other),
+        Some(Meaning::Global(_)) => Err(other),
+        Some(Meaning::Function(_)) => Err(other),
     }
 }
 
 pub(crate) fn signed(negative: bool, v: usize) -> usize
     ensures { result ≡ signed negative v }
 {
-    if negative { minus(65536, v) % 65536 } else { v }
+    if negative {
+        65536usize.saturating_sub(v) % 65536
+    } else {
+        v
+    }
 }
 
 // The constant that ends there.
-pub(crate) fn judge(source: &[u8], s: &[u32], end: usize, top: usize) -> Verdict
+pub(crate) fn judge(source: &[u8], s: &[u32], end: usize, top: usize) -> Result<usize, Refused>
     requires { end < 2 ^ 32 }
     ensures { Judges source.now s.now end top result }
 {
     let n = node_at(s, end);
     if n.kind == NUMBER {
-        return Verdict {
-            word: n.value % 65536,
-            number: 0,
-            place: 0,
-        };
+        return Ok(n.value % 65536);
     }
     if n.kind == NAME {
         let m = lookup(source, s, top, n.inner);
         return named_constant(m, false, n.place, n.place);
     }
     if n.start == n.inner {
-        return Verdict {
-            word: signed(true, n.value),
-            number: 0,
-            place: 0,
-        };
+        return Ok(signed(true, n.value));
     }
     let m = lookup(source, s, top, n.start);
     let name = entry(s, n.start + 2);
@@ -534,30 +511,42 @@ pub(crate) fn judge(source: &[u8], s: &[u32], end: usize, top: usize) -> Verdict
 }
 
 // The same with a limit, as for VEC and GLOBAL: 11 where it is greater.
-pub(crate) fn judge_most(source: &[u8], s: &[u32], end: usize, top: usize, most: usize) -> Verdict
+pub(crate) fn judge_most(
+    source: &[u8],
+    s: &[u32],
+    end: usize,
+    top: usize,
+    most: usize,
+) -> Result<usize, Refused>
     requires { end < 2 ^ 32 }
     ensures { JudgesMost most source.now s.now end top result }
 {
-    let j = judge(source, s, end, top);
-    if most < j.word {
-        return Verdict {
-            word: 0,
-            number: 11,
-            place: entry(s, minus(end, 2)),
-        };
+    let word = judge(source, s, end, top)?;
+    if most < word {
+        return Err(Refused {
+            place: entry(s, end.saturating_sub(2)),
+            fault: Fault::Constant,
+        });
     }
-    j
+    Ok(word)
 }
 
 // A constant's refusal, if it has one.
-pub(crate) fn blame(st: State, j: Verdict) -> State
-    requires { (j.place < 2 ^ 32) × (j.number < 32) }
+pub(crate) fn blame(st: State, j: Result<usize, Refused>) -> State
+    requires { Fitting j }
     ensures { Blames j st result }
 {
-    if j.number == 0 {
-        return st;
+    match j {
+        Ok(_) => st,
+        Err(e) => wrong(st, e.place, e.fault),
     }
-    wrong(st, j.place, j.number)
+}
+
+// Its word; 0 where it is refused.
+pub(crate) fn word_of(j: Result<usize, Refused>) -> usize
+    ensures { result ≡ word_of j }
+{
+    j.unwrap_or(0)
 }
 
 // A vector's address into its name's word.
@@ -586,10 +575,11 @@ pub(crate) fn vector(
     let j = judge_most(source, s, n.inner, here.top, 4095);
     let a = blame(st, j);
     let b = declare(source, s, n.start, n.start + 4, here.top, here.height, a);
-    let c = vector_code(text, b, here.height, j.word);
+    let size = word_of(j);
+    let c = vector_code(text, b, here.height, size);
     Placed {
         top: here.top + 2,
-        height: here.height + 2 + j.word,
+        height: here.height + 2 + size,
         done: c,
     }
 }
@@ -599,37 +589,42 @@ pub(crate) fn marked(here: Here) -> Here
     requires { here.top + 2 < 2 ^ 64 }
     ensures { result ≡ marked here }
 {
-    let mut r = here;
-    r.top = here.top + 2;
-    r
+    Here {
+        top: here.top + 2,
+        ..here
+    }
 }
 
 pub(crate) fn set_at(here: Here, top: usize, height: usize) -> Here
     ensures { result ≡ placed top height here }
 {
-    let mut r = here;
-    r.top = top;
-    r.height = height;
-    r
+    Here {
+        top,
+        height,
+        ..here
+    }
 }
 
 // In a loop.
 pub(crate) fn in_loop(ways: Ways, next: usize, after: usize) -> Ways
     ensures { result ≡ in_loop next after ways }
 {
-    let mut r = ways;
-    r.next = next;
-    r.after = after;
-    r
+    Ways {
+        next,
+        after,
+        ..ways
+    }
 }
 
-// How many items a list has.
+// How many items a list has. Each item begins with its size, and so does each part of the tree: a loop over them goes from one's end,
+// `at + 2 + entry(s, at)`, to the next one's, and there is no index for a `for` to count.
 pub(crate) fn count(s: &[u32], from: usize, end: usize) -> usize
     requires { end < 2 ^ 32 }
-    ensures { Counts s.now from end result }
+    ensures { Counts s.now from end result × (result ≤ end - from) }
 {
     let mut at = from;
     let mut n = 0;
+    // goes on by each item's size
     while at < end {
         at = at + 2 + entry(s, at);
         n += 1;

@@ -12,13 +12,11 @@ use text::{Character, character_at};
 use writing::{emit, global, label};
 
 // 1 for the kind of a string, 0 for any other.
+#[tactic(auto, using(crate::proofs::StringTexts::one_if_yes, crate::proofs::StringTexts::one_if_no))]
 fn one_if(kind: usize) -> usize
     ensures { result ≡ one_if kind }
 {
-    if kind == STRING {
-        return 1;
-    }
-    0
+    (kind == STRING) as usize
 }
 
 // How many of so many symbols are strings.
@@ -27,10 +25,8 @@ pub(crate) fn string_count(s: &[u32], count: usize) -> usize
     ensures { result ≡ string_count (decoded count s.now) }
 {
     let mut n = 0;
-    let mut i = 0;
-    while i < count {
+    for i in 0..count {
         n += one_if(entry(s, i * 3));
-        i += 1;
     }
     n
 }
@@ -62,16 +58,14 @@ fn numbered(text: &mut [u8], at: usize, c: u8) -> usize
 }
 
 // As it stands, or by its number.
+#[tactic(auto, using(crate::proofs::StringTexts::plain_low, crate::proofs::StringTexts::plain_high, crate::proofs::StringTexts::plain_itself))]
 fn plain(text: &mut [u8], at: usize, c: u8) -> usize
     ensures { Appends (plain_text c) at result text.old text.new }
 {
-    if c < 32 {
-        return numbered(text, at, c);
+    if matches!(c, 32..=126) {
+        return emit(text, at, c);
     }
-    if c > 126 {
-        return numbered(text, at, c);
-    }
-    emit(text, at, c)
+    numbered(text, at, c)
 }
 
 // A character of a string.
@@ -92,6 +86,7 @@ fn characters(source: &[u8], from: usize, text: &mut [u8], at: usize) -> usize
 {
     let mut i = from;
     let mut x = at;
+    // goes on by each character's width
     loop {
         let one = character_at(source, i, b'"');
         match one {
@@ -99,13 +94,7 @@ fn characters(source: &[u8], from: usize, text: &mut [u8], at: usize) -> usize
                 x = character(text, x, c);
                 i += width;
             }
-            Character::Closing => {
-                return x;
-            }
-            Character::Ended => {
-                return x;
-            }
-            Character::Mistake(_) => {
+            Character::Closing | Character::Ended | Character::Mistake(_) => {
                 return x;
             }
         }
@@ -157,40 +146,35 @@ pub(crate) fn strings(
 {
     let mut x = at;
     let mut number = first;
-    let mut i = 0;
-    while i < count {
+    for i in 0..count {
         let kind = entry(s, i * 3);
         let place = entry(s, i * 3 + 2);
         x = string_symbol(source, kind, place, text, x, number);
         number += one_if(kind);
-        i += 1;
     }
     x
 }
 
-// The global whose entry in the table is that label; 400 if there is none.
-fn global_of(table: &[u32], label: usize) -> usize
+// The global whose entry in the table is that label, if there is one.
+fn global_of(table: &[u32], label: usize) -> Option<usize>
     ensures { FindsGlobal table.now label result }
 {
-    let mut n = 0;
-    while n < 400 {
+    for n in 0..400 {
         if entry(table, n) == label {
-            return n;
+            return Some(n);
         }
-        n += 1;
     }
-    400
+    None
 }
 
 // The global in which the function with that label starts, if there is one.
 fn start(table: &[u32], label: usize, text: &mut [u8], at: usize) -> usize
     ensures { WritesStart table.now label at result text.old text.new }
 {
-    let n = global_of(table, label);
-    if n < 400 {
-        return global(text, at, n, label);
+    match global_of(table, label) {
+        Some(n) => global(text, at, n, label),
+        None => at,
     }
-    at
 }
 
 // The globals in which functions start: of each global the table has its function's label, or 0.
@@ -199,10 +183,8 @@ pub(crate) fn starts(table: &[u32], functions: usize, text: &mut [u8], at: usize
     ensures { WritesStarts table.now functions at result text.old text.new }
 {
     let mut x = at;
-    let mut k = 0;
-    while k < functions {
+    for k in 0..functions {
         x = start(table, k + 1, text, x);
-        k += 1;
     }
     x
 }

@@ -24,13 +24,14 @@ use crate::kinds::{
     PLING, REPEATED, RESULTIS, STRING, SUFFIXED, SWITCHON, TEST, UNLESS, UNTIL, VALOF, VEC, WHILE,
 };
 use crate::labels::{by_constant, doubled, misplaced, table};
-use crate::scope::{entry, lookup, push, push_name};
+use crate::scope::{Meaning, entry, lookup, push, push_name};
 use crate::steps::{
     Here, Placed, State, Ways, act_of, away, blame, count, declare, for_step, for_test, fresh,
     in_loop, in_switch, in_valof, index_end, inside, jump_unless, jump_when, keep, leave, mark,
-    marked, minus, name_address, name_store, node_at, operate, put, put_to, raised, reached,
-    set_at, store_indexed, store_through, tops, value, vector, wrong,
+    marked, name_word, node_at, operate, put, put_to, raised, reached, set_at, store_indexed,
+    store_through, tops, value, vector, word_of, wrong,
 };
+use text::Fault;
 use writing::Base;
 
 // An expression's value into A.
@@ -99,6 +100,7 @@ fn chain(
 {
     let mut at = from;
     let mut r = st;
+    // goes on by each item's size
     while at < end {
         let size = entry(s, at);
         let operator = entry(s, at + 1);
@@ -128,6 +130,7 @@ fn args(
     let mut at = from;
     let mut k = 0;
     let mut r = st;
+    // goes on by each item's size
     while at < end {
         let next = at + 2 + entry(s, at);
         let a = expr(source, s, next, text, raised(here, k), r);
@@ -157,9 +160,9 @@ fn applied(
     if end <= middle {
         return expr(source, s, middle, text, here, st);
     }
-    let inner = minus(end, 2);
-    let start = minus(inner, entry(s, inner));
-    if entry(s, minus(end, 1)) == PLING {
+    let inner = end.saturating_sub(2);
+    let start = inner.saturating_sub(entry(s, inner));
+    if entry(s, end.saturating_sub(1)) == PLING {
         let a = applied(source, s, middle, start, text, here, st);
         return indexed(source, s, inner, text, here, a);
     }
@@ -253,7 +256,7 @@ fn address(
         OPEN => address(source, s, n.inner, text, inside(here), st, place),
         NAME => {
             let m = lookup(source, s, here.top, n.inner);
-            name_address(text, st, m, n.place, place)
+            name_word(text, st, 0, m, n.place, place)
         }
         SUFFIXED => located(source, s, end, text, here, st),
         MONADIC => {
@@ -281,7 +284,7 @@ fn refuse(
     ensures { GaveRefused source.now s.old s.new end place here text.old text.new st result }
 {
     let a = expr(source, s, end, text, here, st);
-    wrong(a, place, 10)
+    wrong(a, place, Fault::NoPlace)
 }
 
 // The address of a word at an index.
@@ -298,8 +301,8 @@ fn located(
     ensures { GaveAddressIndex source.now s.old s.new end here text.old text.new st result }
 {
     let n = node_at(s, end);
-    let inner = minus(n.inner, 2);
-    let start = minus(inner, entry(s, inner));
+    let inner = n.inner.saturating_sub(2);
+    let start = inner.saturating_sub(entry(s, inner));
     let deep = inside(here);
     let a = applied(source, s, n.start + n.value, start, text, deep, st);
     let b = keep(text, a, here.height);
@@ -327,7 +330,7 @@ fn side(
         OPEN => side(source, s, n.inner, text, inside(here), st, place),
         NAME => {
             let m = lookup(source, s, here.top, n.inner);
-            name_store(text, st, m, n.place, place)
+            name_word(text, st, 1, m, n.place, place)
         }
         SUFFIXED => stored(source, s, end, text, here, st),
         MONADIC => {
@@ -349,8 +352,8 @@ fn stored(source: &[u8], s: &mut [u32], end: usize, text: &mut [u8], here: Here,
     ensures { GaveSideIndex source.now s.old s.new end here text.old text.new st result }
 {
     let n = node_at(s, end);
-    let inner = minus(n.inner, 2);
-    let start = minus(inner, entry(s, inner));
+    let inner = n.inner.saturating_sub(2);
+    let start = inner.saturating_sub(entry(s, inner));
     let up = raised(inside(here), 1);
     let a = keep(text, st, here.height);
     let b = applied(source, s, n.start + n.value, start, text, up, a);
@@ -378,6 +381,7 @@ fn assign(
     let mut l = left;
     let mut at = right;
     let mut r = st;
+    // goes on by each item's size
     while at < end {
         let next = at + 2 + entry(s, at);
         let a = expr(source, s, next, text, here, r);
@@ -429,6 +433,7 @@ fn locals(
         height: here.height,
         done: st,
     };
+    // goes on by each item's size
     while at < end {
         let next = at + 2 + entry(s, at);
         let now = set_at(here, r.top, r.height);
@@ -457,6 +462,7 @@ fn list(
 {
     let mut at = from;
     let mut r = st;
+    // goes on by each item's size
     while at < end {
         let next = at + 2 + entry(s, at);
         r = command(source, s, next, text, here, ways, r);
@@ -561,7 +567,7 @@ fn repeated(
     if n.kind == REPEATED {
         let middle = n.start + n.value;
         let k = count(s, middle, n.inner);
-        let own = minus(st.label + 3 * k, 3);
+        let own = (st.label + 3 * k).saturating_sub(3);
         let a = fresh(st, 3 * k);
         let b = tops(text, a, st.label, k);
         let c = plain(
@@ -597,6 +603,7 @@ fn forms(
     let mut at = from;
     let mut own = innermost;
     let mut r = st;
+    // goes on by each item's size
     while at < end {
         let size = entry(s, at);
         let word = entry(s, at + 1);
@@ -604,7 +611,7 @@ fn forms(
         let a = mark(text, r, own + 1);
         let b = form(source, s, next, text, here, a, size, word, own);
         r = mark(text, b, own + 2);
-        own = minus(own, 3);
+        own = own.saturating_sub(3);
         at = next;
     }
     r
@@ -655,8 +662,7 @@ fn plain(
             let a = expr(source, s, n.inner, text, here, st);
             leave(text, a, ways.result, n.place)
         }
-        IF => when(source, s, end, text, here, ways, st),
-        UNLESS => when(source, s, end, text, here, ways, st),
+        IF | UNLESS => when(source, s, end, text, here, ways, st),
         BEGIN => block(source, s, end, text, here, ways, st),
         ASSIGN => assign(
             source,
@@ -669,8 +675,7 @@ fn plain(
             st,
         ),
         TEST => test(source, s, end, text, here, ways, st),
-        WHILE => while_do(source, s, end, text, here, ways, st),
-        UNTIL => while_do(source, s, end, text, here, ways, st),
+        WHILE | UNTIL => while_do(source, s, end, text, here, ways, st),
         FOR => for_to(source, s, end, text, here, ways, st),
         SWITCHON => switch(source, s, end, text, here, ways, st),
         CALLED => expr(source, s, end, text, here, st),
@@ -777,7 +782,7 @@ fn for_to(
 {
     let n = node_at(s, end);
     let body = node_at(s, n.inner);
-    let limit_end = minus(body.start, n.value);
+    let limit_end = body.start.saturating_sub(n.value);
     let limit = node_at(s, limit_end);
     let a = fresh(st, 3);
     let b = expr(source, s, limit.start, text, here, a);
@@ -786,9 +791,10 @@ fn for_to(
     let e = keep(text, d, here.height + 1);
     let by = by_constant(source, s, limit_end, body.start, here.top);
     let f = blame(e, by);
-    let g = for_test(text, f, here.height, by.word, st.label);
+    let step = word_of(by);
+    let g = for_test(text, f, here.height, step, st.label);
     push(s, here.top, 0, 0);
-    push_name(s, here.top + 2, n.start, here.height * 4 + 1);
+    push_name(s, here.top + 2, n.start, Meaning::Local(here.height));
     let inner = set_at(here, here.top + 4, here.height + 2);
     let h = command(
         source,
@@ -799,7 +805,7 @@ fn for_to(
         in_loop(ways, st.label + 1, st.label + 2),
         g,
     );
-    for_step(text, h, here.height, by.word, st.label)
+    for_step(text, h, here.height, step, st.label)
 }
 
 // SWITCHON: its end at the first label after those of its value, then a label for each command of the list.
@@ -867,6 +873,7 @@ fn cases(
     let mut at = from;
     let mut k = 0;
     let mut r = st;
+    // goes on by each item's size
     while at < end {
         let next = at + 2 + entry(s, at);
         let a = mark(text, r, first + k);

@@ -4,4 +4,4 @@ use Rattle.compiler.proofs.labels.pair.Tie as tie
 
 pub pair_spec : {M : Type 1} → Rattle.compiler.proofs.labels.pair.Statement.statement M
 pair_spec =
-    tie.close (tie.spec (search needs) (λ c. search pair-not) (search needs) (search needs) (search needs) (search needs) (λ c. search pair_is))
+    tie.close (tie.spec (search needs) (λ c. search pair-not) (search needs) (search needs) (search needs) (search needs) (search needs) (λ c. search pair_is))

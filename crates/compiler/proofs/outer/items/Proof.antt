@@ -25,17 +25,17 @@ items_spec = tie.close (tie.spec invariant-loop decreases-loop (λ c. (refl, λ 
     (λ c. omega (arith, fit (search))) (λ c. omega arith) (λ c κs. omega (arith, fit (search))) (λ c. omega arith) (search needs) (search needs)
     (λ c _. c.entry-place.ensures.1) (λ c. omega (arith, fit (search))) (λ c. omega (arith, fit (search))) (λ c. omega (arith, fit (search)))
     (search needs)
+    (search needs)
     -- push-name-requires
     (λ c κs. let w = fit (search) in
-    let v = code-small c.args.global c.item_constant-c.result.word
-    c.item_constant-c.ensures.low in (omega arith, omega arith, omega arith, w.name))
+    let v = code-small c.args.global c.word_of.result (rw c.word_of.ensures c.item_constant-c.ensures.low) in (omega arith, omega arith, omega arith, w.name))
     (λ c. omega (arith, fit (search))) (λ c. omega arith)
     -- loop-again
     (λ c. (
       omega arith,
       λ y. items-next _ _ c.args.st _ c.loop-at-test.true c.entry.ensures.0 refl
           c.item_constant-c.ensures c.in_block-m.ensures c.entry-place.ensures.0
-          c.blame-a.ensures c.again-r.ensures c.push_name.ensures c.meaning.ensures y
+          c.blame-a.ensures c.again-r.ensures c.push_name.ensures c.word_of.ensures c.meaning.ensures y
           (c.loop-at.invariant.1 y),
     ))
     (λ c. omega (arith, out (search))) (λ c. omega (arith, out (search))) (search needs) (λ c. search items-end))

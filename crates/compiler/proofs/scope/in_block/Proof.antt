@@ -20,12 +20,14 @@ in_block_spec = tie.close (tie.spec invariant-loop (λ source s top leaf width p
           c.loop-at-test.true c.stacked-m.ensures.0 l.shows c.if-m-eq0.true));
     })
     (λ c κs. omega arith) (λ c κs. omega arith)
+    -- decode-requires
+    (λ c κs. omega (arith, c.if-m-eq0.false))
     -- returns-3
-    (λ c. record {
+    (λ c. rw c.decode.ensures (record {
       by = λ sc h. let l = c.loop-at.invariant.1 sc h in in-found _ _ _ _ c.loop-at-test.true
           c.stacked-m.ensures.0 c.if-m-eq0.false c.stacked.ensures.0 c.entry-width.ensures.0
           c.entry-place.ensures.0 l.shows (sym c.if-spelt.true ∙ c.spelt.ensures) ∙ ap found (sym l.same);
-    })
+    }))
     (λ c. omega arith)
     -- loop-again
     (λ c. (

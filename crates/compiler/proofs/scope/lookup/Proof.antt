@@ -1,4 +1,4 @@
-use Rattle.laws.proofs.Basics.{◌≤◌, sym, ap, ◌∙◌, arith, needs}
+use Rattle.laws.proofs.Basics.{◌≤◌, ◌≡◌, sym, ap, ◌∙◌, arith, needs}
 use Rattle.language.specs.Names.{Scope, lookup}
 use Rattle.compiler.specs.Scope.{Shows, name_at, found}
 use Rattle.compiler.proofs.Scoping.{shows_low, Left, left-all, left-then, at-outer, at_open, at_other, at-found}
@@ -47,8 +47,10 @@ lookup_spec = tie.close (tie.spec invariant-loop (λ source s top leaf width pla
           c.entry-place.ensures.0 l.shows (sym c.if-spelt.false ∙ c.spelt.ensures))),
     ))
     (λ c. omega arith) (λ c κs. omega arith)
+    -- decode-requires
+    (λ c κs. let z : c.stacked-2.result ≡ 0 → ⊥ = λ e. c.if-stacked-eq0.false (c.stacked.ensures.0 ∙ sym c.stacked-2.ensures.0 ∙ e) in omega arith)
     -- returns-3
-    (λ c. (
+    (λ c. rw c.decode.ensures (
       record {
         by = λ sc h. let l = c.loop-at.invariant.2 sc h in at-found _ _ c.args.leaf _ c.if-at-lt2.false
             c.stacked-2.ensures.0 (λ e. c.if-stacked-eq0.false (c.stacked.ensures.0 ∙ sym c.stacked-2.ensures.0 ∙ e))

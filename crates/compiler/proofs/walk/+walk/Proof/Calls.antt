@@ -8,23 +8,23 @@ use Rattle.compiler.proofs.Calls.{indexed-gave, passed-gave, with-state, args-wi
 use Rattle.compiler.proofs.Calls.{LastRead, last-read, primary-part, primary-gave, index-left, index-right, index-gave, call-args}
 use Rattle.compiler.proofs.Calls.{call-callee, call-gave, call-few, args-ready-at, suffixes-ready-at, args-gave-at, suffixes-gave-at}
 use Rattle.compiler.proofs.Expressions.{ready_at, gave_at, left_at}
-use cycle.Proof.Ranks.{rank, at, calls, both, three, four, nine, applied, args, expr, indexed, passed}
+use cycle.Proof.Ranks.{rank, at, less, calls, both, three, four, nine, applied, args, expr, indexed, passed}
 
 abbrev applied-cs : ℕ → cycle.Lts-applied.Claims
 applied-cs t =
-    nine (calls expr t) (steps.minus.Reads.Asked, steps.minus.Reads.Learnt) (proofs.scope.entry.Reads.Asked, proofs.scope.entry.Reads.Learnt)
+    nine (calls expr t) less (proofs.scope.entry.Reads.Asked, proofs.scope.entry.Reads.Learnt)
     (calls applied t) (calls indexed t) (steps.count.Reads.Asked, steps.count.Reads.Learnt) (calls passed t)
     (steps.raised.Reads.Asked, steps.raised.Reads.Learnt) (steps.put.Reads.Asked, steps.put.Reads.Learnt)
 
 applied-read : (t : ℕ) (c : cycle.Lts-applied.After-entry-2 (applied-cs t) (at applied t) (rank applied).post)
     → let args = c.args in LastRead args.s.now args.middle args.end c.entry-2.result
-    c.minus-inner.result c.minus-start.result
-applied-read t c = last-read c.if-end-middle.false c.minus.ensures c.entry-2.ensures.0 c.minus-inner.ensures
-    c.entry.ensures.0 c.minus-start.ensures
+    c.saturating_sub-inner.result c.saturating_sub-start.result
+applied-read t c = last-read c.if-end-middle.false c.saturating_sub.ensures c.entry-2.ensures.0 c.saturating_sub-inner.ensures
+    c.entry.ensures.0 c.saturating_sub-start.ensures
 
 applied-few : (t : ℕ) (c : cycle.Lts-applied.After-count-n (applied-cs t) (at applied t) (rank applied).post)
     → c.count-n.result < c.args.end
-applied-few t c = call-few (applied-read t (search)) c.if-entry-eq-PLING.false c.count-n.ensures c.requires.1
+applied-few t c = call-few (applied-read t (search)) c.if-entry-eq-PLING.false c.count-n.ensures.0 c.requires.1
 
 pub applied-ok : {M : Type 1} (t : ℕ) → cycle.Lts-applied.Closed (applied-cs t) (at applied t) (rank applied).post M
 applied-ok t = cycle.Lts-applied.spec (applied-cs t) (at applied t) (rank applied).post (λ c κs. search (needs, primary-part)) (λ c. omega arith)

@@ -73,7 +73,7 @@ switch-fit : (t : ℕ) (c : cycle.Lts-switch.After-count-k (switch-cs t) (at swi
     → (c.expr-a.result.label + c.count-k.result + 1 ≤ 2 ^ 29) ×
     (c.args.st.label ≤ c.expr-a.result.label)
 switch-fit t c = switch-few _ c.node_at-n.ensures c.requires.1.1.is refl c.args.source.now c.expr-a.ensures
-    c.count-k.ensures c.requires.1.0
+    c.count-k.ensures.0 c.requires.1.0
 
 pub switch-ok : {M : Type 1} (t : ℕ) → cycle.Lts-switch.Closed (switch-cs t) (at switch t) (rank switch).post M
 switch-ok t = cycle.Lts-switch.spec (switch-cs t) (at switch t) (rank switch).post (λ c κs. omega arith) (λ c. omega arith)
@@ -87,7 +87,7 @@ switch-ok t = cycle.Lts-switch.spec (switch-cs t) (at switch t) (rank switch).po
     (λ c κs. omega arith) (λ c. omega (arith, switch-fit t (search)))
     -- cases-requires
     (λ c κs. both (omega (arith, c.requires.0)) (both
-    (switch-cases _ c.node_at-n.ensures c.requires.1.1.is refl _ c.expr-a.ensures c.count-k.ensures
+    (switch-cases _ c.node_at-n.ensures c.requires.1.1.is refl _ c.expr-a.ensures c.count-k.ensures.0
     c.fresh-b.ensures c.doubled-c.ensures refl c.table-d.ensures c.requires.1.0)
     (omega (arith, switch-fit t (search)))))
     (λ c κs. omega arith)
@@ -98,7 +98,7 @@ switch-ok t = cycle.Lts-switch.spec (switch-cs t) (at switch t) (rank switch).po
     (λ c. c.mark.auto.text ∙ c.cases-e.auto.text ∙ c.table-d.auto.text
     ∙ c.expr-a.auto.text)
     -- returns
-    (λ c. switch-gave _ c.node_at-n.ensures c.requires.1.1.is refl _ c.expr-a.ensures c.count-k.ensures
+    (λ c. switch-gave _ c.node_at-n.ensures c.requires.1.1.is refl _ c.expr-a.ensures c.count-k.ensures.0
     c.fresh-b.ensures c.doubled-c.ensures refl c.table-d.ensures _
     (gave-cases-at c.in_switch.ensures c.cases-e.ensures) c.mark.ensures)
 

@@ -4,15 +4,16 @@ use proofs.steps as steps
 use Rattle.compiler.proofs.walk.+walk as cycle
 use Rattle.compiler.proofs.Labelled.{labelled-labels, labelled-bare, labelled-gave, unlabelled-gave, bare-empty, labelled-rest}
 use Rattle.compiler.proofs.Labelled.{bare-labelled, bare-part, bare-gave, command-some, gave-r-at}
-use Rattle.compiler.proofs.Conditions.{while-while, while-until}
+use Rattle.compiler.proofs.Conditions.{while-guards}
 use Rattle.compiler.proofs.Aways.{performed-part, performed-gave, away-gave}
 use Rattle.laws.proofs.Basics.{ℕ, refl, arith, needs}
 use Rattle.compiler.proofs.Assigning.{assigned-part, assigned-gave}
-use Rattle.compiler.proofs.Guards.{when-if, when-unless}
+use Rattle.compiler.proofs.Guards.{when-guards}
 use Rattle.compiler.proofs.Commands.{result-part, result-gave}
 use Rattle.compiler.proofs.Expressions.{ready_at, left_at}
 use cycle.Proof.Ranks.{rank, at, calls, both, three, eleven, assign, bare, block, command, expr, for-to, plain, repeated, switch, test, when}
 use cycle.Proof.Ranks.{while-do}
+use cycle.Lts-plain.{in_default-via-then-kind-lt16 as low, in_default-via-else-kind-lt16+else-kind-lt18+else-kind-lt20 as high}
 
 abbrev command-cs : ℕ → cycle.Lts-command.Claims
 command-cs t =
@@ -49,23 +50,29 @@ bare-ok t = cycle.Lts-bare.spec (bare-cs t) (at bare t) (rank bare).post (λ c �
 
 abbrev plain-cs : ℕ → cycle.Lts-plain.Claims
 plain-cs t =
-    eleven (steps.node_at.Reads.Asked, steps.node_at.Reads.Learnt) (calls expr t) (steps.leave.Reads.Asked, steps.leave.Reads.Learnt) (calls when t)
-    (calls block t) (calls assign t) (calls test t) (calls while-do t) (calls for-to t) (calls switch t)
-    (steps.away.Reads.Asked, steps.away.Reads.Learnt)
+    eleven (steps.node_at.Reads.Asked, steps.node_at.Reads.Learnt) (calls expr t) (steps.leave.Reads.Asked, steps.leave.Reads.Learnt)
+    (calls block t) (calls assign t) (calls test t) (calls for-to t) (calls switch t)
+    (calls when t) (calls while-do t) (steps.away.Reads.Asked, steps.away.Reads.Learnt)
 
 pub plain_ok : {M : Type 1} (t : ℕ) → cycle.Lts-plain.Closed (plain-cs t) (at plain t) (rank plain).post M
 plain_ok t = cycle.Lts-plain.spec (plain-cs t) (at plain t) (rank plain).post (λ c κs. omega arith) (λ c κs. search (needs, result-part))
-    (λ c κs. omega arith) (λ c κs. search (needs, when-if)) (λ c κs. search (needs, when-unless)) (λ c κs. search needs) (λ c. omega arith)
-    (λ c. omega arith) (λ c κs. search (needs, assigned-part)) (λ c κs. search needs) (λ c κs. search (needs, while-while))
-    (λ c κs. search (needs, while-until)) (λ c κs. (omega arith, (search needs, record { is = cc })))
+    (λ c κs. omega arith) (λ c κs. search needs) (λ c. omega arith) (λ c. omega arith) (λ c κs. search (needs, assigned-part))
+    (λ c κs. search needs) (λ c κs. (omega arith, (search needs, record { is = cc })))
     (λ c κs. (omega arith, (search needs, record { is = cc }))) (λ c κs. search (needs, performed-part))
-    (λ c _. c.node_at-n.ensures.place_fits) (λ c. omega arith) (λ c. omega arith) (λ c. search result-gave) (λ c. omega arith)
-    (λ c. omega arith) (λ c. c.when.ensures) (λ c. omega arith) (λ c. omega arith)
-    (λ c. c.when-in-17.ensures) (λ c. omega arith) (λ c. omega arith)
+    (λ c κs. search (needs, when-guards))
+    (λ c κs. search (needs, while-guards))
+    (λ c _. c.node_at-n.ensures.place_fits)
+    (λ c. omega arith) (λ c. omega arith) (λ c. search result-gave) (λ c. omega arith) (λ c. omega arith)
     (λ c. c.block.ensures) (λ c. omega arith) (λ c. omega arith) (λ c. search assigned-gave) (λ c. omega arith)
     (λ c. omega arith) (λ c. c.test.ensures) (λ c. omega arith) (λ c. omega arith)
-    (λ c. c.while_do.ensures) (λ c. omega arith) (λ c. omega arith)
-    (λ c. c.while_do-in-19.ensures) (λ c. omega arith) (λ c. omega arith)
     (λ c. c.for_to.ensures) (λ c. omega arith) (λ c. omega arith)
     (λ c. c.switch.ensures) (λ c. omega arith) (λ c. omega arith) (λ c. search performed-gave) (λ c. omega arith)
-    (λ c. omega arith) (λ c. search away-gave)
+    (λ c. omega arith)
+    (λ c. c.when.ensures) (λ c. omega arith) (λ c. omega arith)
+    (λ c. c.while_do.ensures) (λ c. omega arith) (λ c. omega arith)
+    (λ c. elim c.in_default.branch [
+      | low w ↦ away-gave _ c.args.ways _ c.node_at-n.ensures (λ e. omega arith) (λ e. omega arith) (λ e. omega arith) (λ e. omega arith) (λ e. omega arith) (λ e. omega arith)
+          (λ e. omega arith) (λ e. omega arith) (λ e. omega arith) (λ e. omega arith) (λ e. omega arith) c.away.ensures
+      | high w ↦ away-gave _ c.args.ways _ c.node_at-n.ensures (λ e. omega arith) (λ e. omega arith) (λ e. omega arith) (λ e. omega arith) (λ e. omega arith) (λ e. omega arith)
+          (λ e. omega arith) (λ e. omega arith) (λ e. omega arith) (λ e. omega arith) (λ e. omega arith) c.away.ensures
+    ])

@@ -1,5 +1,5 @@
 -- The measures of the walk's cycle: the levels left, and below that a rank, so that a call that opens no level goes to a smaller one.
-use Rattle.laws.proofs.Basics.{ℕ, ◌+◌, ◌*◌, ◌<◌, List}
+use Rattle.laws.proofs.Basics.{ℕ, ◌+◌, ◌-◌, ◌*◌, ◌<◌, ◌≡◌, List}
 use borrow.Fn.Kinds.{ParamKind, ResultKind, In, Out}
 use Rattle.compiler.proofs.Vocabulary.{Here}
 use borrow.Fn.PlainCycle.{Measures, is, falls, and}
@@ -70,6 +70,10 @@ module _ (f : Function) (t : ℕ) where
   abbrev pub calls : In 3 (rank f).ps × Out 3 (rank f).ps (rank f).r
   calls = (below, (rank f).post)
 
+-- what a difference that stays at 0 asks and says
+abbrev pub less : (Unit {0} → ℕ × (ℕ × Unit {0}) → Type 0) × (Unit {0} → ℕ × (ℕ × Unit {0}) → ℕ → ℕ × (ℕ × Unit {0}) → Type 0)
+less = (λ κs a. Unit {0}, λ κs a r b. r ≡ a.0 - a.1.0)
+
 -- that the measure falls, and what a call asks besides
 abbrev pub both : {A B : Type 0} → A → B → A × B
 both a b = (a, b)
@@ -108,8 +112,8 @@ abbrev pub fourteen : {A B C D E F G H I J K L M N O P Q R S T U W X Y Z A' B' C
 fourteen (a, b) (c, d) (e, f) (g, h) (i, j) (k, l) (m, n) (o, p) (q, r) (s, t) (u, w) (x, y) (z, a') (b', c') =
     (a, b, c, d, e, f, g, h, i, j, k, l, m, n, o, p, q, r, s, t, u, w, x, y, z, a', b', c')
 
-abbrev pub fifteen : {A B C D E F G H I J K L M N O P Q R S T U W X Y Z A' B' C' D' E' : Type 1}
-    → A × B → C × D → E × F → G × H → I × J → K × L → M × N → O × P → Q × R → S × T → U × W → X × Y → Z × A' → B' × C' → D' × E'
-    → A × B × C × D × E × F × G × H × I × J × K × L × M × N × O × P × Q × R × S × T × U × W × X × Y × Z × A' × B' × C' × D' × E'
-fifteen (a, b) (c, d) (e, f) (g, h) (i, j) (k, l) (m, n) (o, p) (q, r) (s, t) (u, w) (x, y) (z, a') (b', c') (d', e') =
-    (a, b, c, d, e, f, g, h, i, j, k, l, m, n, o, p, q, r, s, t, u, w, x, y, z, a', b', c', d', e')
+abbrev pub sixteen : {A B C D E F G H I J K L M N O P Q R S T U W X Y Z A' B' C' D' E' F' G' : Type 1}
+    → A × B → C × D → E × F → G × H → I × J → K × L → M × N → O × P → Q × R → S × T → U × W → X × Y → Z × A' → B' × C' → D' × E' → F' × G'
+    → A × B × C × D × E × F × G × H × I × J × K × L × M × N × O × P × Q × R × S × T × U × W × X × Y × Z × A' × B' × C' × D' × E' × F' × G'
+sixteen (a, b) (c, d) (e, f) (g, h) (i, j) (k, l) (m, n) (o, p) (q, r) (s, t) (u, w) (x, y) (z, a') (b', c') (d', e') (f', g') =
+    (a, b, c, d, e, f, g, h, i, j, k, l, m, n, o, p, q, r, s, t, u, w, x, y, z, a', b', c', d', e', f', g')

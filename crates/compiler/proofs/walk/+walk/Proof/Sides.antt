@@ -11,11 +11,11 @@ use Rattle.compiler.specs.Assigns.{ReadyAssign}
 use Rattle.compiler.proofs.Vocabulary.{Here, raised}
 use Rattle.compiler.proofs.Calls.{suffixes-ready-at, suffixes-gave-at}
 use Rattle.compiler.proofs.Expressions.{bracket-part, ready_at, gave_at, left_at, some_left}
-use cycle.Proof.Ranks.{rank, at, below, calls, both, four, eight, nine, eleven, address, applied, assign, expr, located, refuse, side, stored}
+use cycle.Proof.Ranks.{rank, at, less, below, calls, both, four, eight, nine, eleven, address, applied, assign, expr, located, refuse, side, stored}
 
 abbrev address-cs : ℕ → cycle.Lts-address.Claims
 address-cs t = eight (steps.node_at.Reads.Asked, steps.node_at.Reads.Learnt) (steps.inside.Reads.Asked, steps.inside.Reads.Learnt) (calls address t)
-    (proofs.scope.lookup.Reads.Asked, proofs.scope.lookup.Reads.Learnt) (steps.name_address.Reads.Asked, steps.name_address.Reads.Learnt)
+    (proofs.scope.lookup.Reads.Asked, proofs.scope.lookup.Reads.Learnt) (steps.name_word.Reads.Asked, steps.name_word.Reads.Learnt)
     (calls located t) (calls expr t) (calls refuse t)
 
 pub address-ok : {M : Type 1} (t : ℕ) → cycle.Lts-address.Closed (address-cs t) (at address t) (rank address).post M
@@ -25,7 +25,7 @@ address-ok t = cycle.Lts-address.spec (address-cs t) (at address t) (rank addres
     (λ c κs. both (let falls = c.requires.0 in
     omega (arith, left_at, some_left)) (search (ready_at, monadic-part)))
     (λ c. omega arith) (λ c. omega arith) (λ c. search (address-pling, gave_at)) (λ c κs. search needs) (λ c κs. search needs) (λ c. omega arith)
-    (λ c. omega arith) (λ c. search (address-open, gave-address-at)) (λ c. omega arith) (λ c. omega arith) (λ c. search address-name)
+    (λ c. omega arith) (λ c. search (address-open, gave-address-at)) (λ c. omega arith) (λ c. omega arith) (λ c. search (address-name, c.name_word.ensures.0 refl))
     (λ c. omega arith) (λ c. omega arith) (λ c. c.located.ensures
     c.args.place)
     (λ c. omega arith) (λ c. omega arith)
@@ -38,7 +38,7 @@ address-ok t = cycle.Lts-address.spec (address-cs t) (at address t) (rank addres
     c.refuse-in_default.ensures)
 
 abbrev located-cs : ℕ → cycle.Lts-located.Claims
-located-cs t = nine (steps.node_at.Reads.Asked, steps.node_at.Reads.Learnt) (steps.minus.Reads.Asked, steps.minus.Reads.Learnt)
+located-cs t = nine (steps.node_at.Reads.Asked, steps.node_at.Reads.Learnt) less
     (proofs.scope.entry.Reads.Asked, proofs.scope.entry.Reads.Learnt) (steps.inside.Reads.Asked, steps.inside.Reads.Learnt) (calls applied t)
     (steps.keep.Reads.Asked, steps.keep.Reads.Learnt) (steps.raised.Reads.Asked, steps.raised.Reads.Learnt) (calls expr t)
     (steps.put.Reads.Asked, steps.put.Reads.Learnt)
@@ -49,16 +49,16 @@ located-ok t =
     (λ c κs. omega arith) (λ c κs. omega arith) (λ c. omega arith)
     -- applied-requires
     (λ c κs. both (omega (arith, c.requires.0, left_at, some_left, c.requires.1.0.small)) (suffixes-ready-at c.inside-deep.ensures
-    (address-left _ c.node_at-n.ensures c.requires.1.1 refl c.minus-inner.ensures c.entry.ensures.0
-    c.minus-start.ensures c.requires.1.0)))
+    (address-left _ c.node_at-n.ensures c.requires.1.1 refl c.saturating_sub-inner.ensures c.entry.ensures.0
+    c.saturating_sub-start.ensures c.requires.1.0)))
     -- keep-requires
     (λ c κs. omega (arith, c.requires.1.0.height))
     -- raised-requires
     (λ c κs. omega (arith, c.requires.1.0.height, ap (λ (x : Here). x.height) c.inside-deep.ensures))
     -- expr-requires
     (λ c κs. both (omega (arith, c.requires.0, left_at, some_left)) (ready_at (c.raised.ensures ∙ ap (raised 1) c.inside-deep.ensures)
-    (address-right _ c.node_at-n.ensures c.requires.1.1 refl c.minus-inner.ensures c.entry.ensures.0
-    c.minus-start.ensures _ (suffixes-gave-at c.inside-deep.ensures c.applied-a.ensures) c.keep-b.ensures
+    (address-right _ c.node_at-n.ensures c.requires.1.1 refl c.saturating_sub-inner.ensures c.entry.ensures.0
+    c.saturating_sub-start.ensures _ (suffixes-gave-at c.inside-deep.ensures c.applied-a.ensures) c.keep-b.ensures
     c.requires.1.0)))
     (λ c κs. omega arith)
     -- same-length
@@ -67,8 +67,8 @@ located-ok t =
     -- same-length-2
     (λ c. c.put.auto.text ∙ c.expr-c.auto.text ∙ c.keep-b.auto.text ∙ c.applied-a.auto.text)
     -- returns
-    (λ c. address-index-gave _ c.node_at-n.ensures c.requires.1.1 refl c.minus-inner.ensures c.entry.ensures.0
-    c.minus-start.ensures _ (suffixes-gave-at c.inside-deep.ensures c.applied-a.ensures) c.keep-b.ensures
+    (λ c. address-index-gave _ c.node_at-n.ensures c.requires.1.1 refl c.saturating_sub-inner.ensures c.entry.ensures.0
+    c.saturating_sub-start.ensures _ (suffixes-gave-at c.inside-deep.ensures c.applied-a.ensures) c.keep-b.ensures
     (gave_at _ (c.raised.ensures ∙ ap (raised 1) c.inside-deep.ensures) c.expr-c.ensures)
     c.put.ensures)
 
@@ -81,7 +81,7 @@ refuse-ok t = cycle.Lts-refuse.spec (refuse-cs t) (at refuse t) (rank refuse).po
 
 abbrev side-cs : ℕ → cycle.Lts-side.Claims
 side-cs t = eleven (steps.node_at.Reads.Asked, steps.node_at.Reads.Learnt) (steps.inside.Reads.Asked, steps.inside.Reads.Learnt) (calls side t)
-    (proofs.scope.lookup.Reads.Asked, proofs.scope.lookup.Reads.Learnt) (steps.name_store.Reads.Asked, steps.name_store.Reads.Learnt) (calls stored t)
+    (proofs.scope.lookup.Reads.Asked, proofs.scope.lookup.Reads.Learnt) (steps.name_word.Reads.Asked, steps.name_word.Reads.Learnt) (calls stored t)
     (steps.keep.Reads.Asked, steps.keep.Reads.Learnt) (steps.raised.Reads.Asked, steps.raised.Reads.Learnt) (calls expr t)
     (steps.store_through.Reads.Asked, steps.store_through.Reads.Learnt) (calls refuse t)
 
@@ -107,7 +107,7 @@ side-ok t = cycle.Lts-side.spec (side-cs t) (at side t) (rank side).post (λ c �
     (λ c κs. omega arith)
     (λ c κs. both (omega (arith, c.requires.0, left_at))
     (search ready_at)) (λ c κs. omega arith) (λ c κs. (omega (arith, left_at), (search ready_at, omega arith))) (λ c. omega arith) (λ c. omega arith)
-    (λ c. search (side-open, gave-side-at)) (λ c. omega arith) (λ c. omega arith) (λ c. search side-name) (λ c. omega arith) (λ c. omega arith)
+    (λ c. search (side-open, gave-side-at)) (λ c. omega arith) (λ c. omega arith) (λ c. search (side-name, c.name_word.ensures.1 refl)) (λ c. omega arith) (λ c. omega arith)
     (λ c. c.stored.ensures
     c.args.place)
     (λ c. omega arith) (λ c. omega arith)
@@ -120,7 +120,7 @@ side-ok t = cycle.Lts-side.spec (side-cs t) (at side t) (rank side).post (λ c �
     (gave-refused-at c.raised-in_default.ensures c.refuse-in_default.ensures))
 
 abbrev stored-cs : ℕ → cycle.Lts-stored.Claims
-stored-cs t = nine (steps.node_at.Reads.Asked, steps.node_at.Reads.Learnt) (steps.minus.Reads.Asked, steps.minus.Reads.Learnt)
+stored-cs t = nine (steps.node_at.Reads.Asked, steps.node_at.Reads.Learnt) less
     (proofs.scope.entry.Reads.Asked, proofs.scope.entry.Reads.Learnt) (steps.inside.Reads.Asked, steps.inside.Reads.Learnt)
     (steps.raised.Reads.Asked, steps.raised.Reads.Learnt) (steps.keep.Reads.Asked, steps.keep.Reads.Learnt) (calls applied t) (calls expr t)
     (steps.store_indexed.Reads.Asked, steps.store_indexed.Reads.Learnt)
@@ -135,10 +135,10 @@ stored_ok t = cycle.Lts-stored.spec (stored-cs t) (at stored t) (rank stored).po
     -- applied-requires
     (λ c κs. both (let falls = c.requires.0 in let left = left_at c.raised-up.ensures in let left2 = left_at c.inside.ensures in
     let some = some_left c.requires.1.0 in let small = c.requires.1.0.small in let inner = c.node_at-n.ensures.inner in
-    let minus_is = c.minus-inner.ensures in let minus2-is = c.minus-start.ensures in
+    let minus_is = c.saturating_sub-inner.ensures in let minus2-is = c.saturating_sub-start.ensures in
     omega arith) (suffixes-ready-at (c.raised-up.ensures ∙ ap (raised 1) c.inside.ensures)
-    (side_left _ c.node_at-n.ensures c.requires.1.1 refl c.minus-inner.ensures c.entry.ensures.0
-    c.minus-start.ensures [] c.keep-a.ensures c.requires.1.0)))
+    (side_left _ c.node_at-n.ensures c.requires.1.1 refl c.saturating_sub-inner.ensures c.entry.ensures.0
+    c.saturating_sub-start.ensures [] c.keep-a.ensures c.requires.1.0)))
     -- add-keep
     (λ c. omega (arith, c.requires.1.0.height))
     -- keep-requires-2
@@ -150,8 +150,8 @@ stored_ok t = cycle.Lts-stored.spec (stored-cs t) (at stored t) (rank stored).po
     (λ c κs. both (let falls = c.requires.0 in let left = left_at c.raised.ensures in let left2 = left_at c.raised-up.ensures in
     let left3 = left_at c.inside.ensures in let some = some_left c.requires.1.0 in
     omega arith) (ready_at (c.raised.ensures ∙ ap (raised 1) (c.raised-up.ensures ∙ ap (raised 1) c.inside.ensures))
-    (side_right _ c.node_at-n.ensures c.requires.1.1 refl c.minus-inner.ensures c.entry.ensures.0
-    c.minus-start.ensures _ c.keep-a.ensures
+    (side_right _ c.node_at-n.ensures c.requires.1.1 refl c.saturating_sub-inner.ensures c.entry.ensures.0
+    c.saturating_sub-start.ensures _ c.keep-a.ensures
     (suffixes-gave-at (c.raised-up.ensures ∙ ap (raised 1) c.inside.ensures) c.applied-b.ensures)
     c.keep-c.ensures c.requires.1.0)))
     -- store-indexed-requires
@@ -163,8 +163,8 @@ stored_ok t = cycle.Lts-stored.spec (stored-cs t) (at stored t) (rank stored).po
     (λ c. c.store_indexed.auto.text ∙ c.expr-d.auto.text ∙ c.keep-c.auto.text
     ∙ c.applied-b.auto.text ∙ c.keep-a.auto.text)
     -- returns
-    (λ c. side-index-gave _ c.node_at-n.ensures c.requires.1.1 refl c.minus-inner.ensures c.entry.ensures.0
-    c.minus-start.ensures _ c.keep-a.ensures
+    (λ c. side-index-gave _ c.node_at-n.ensures c.requires.1.1 refl c.saturating_sub-inner.ensures c.entry.ensures.0
+    c.saturating_sub-start.ensures _ c.keep-a.ensures
     (suffixes-gave-at (c.raised-up.ensures ∙ ap (raised 1) c.inside.ensures) c.applied-b.ensures)
     c.keep-c.ensures (gave_at _ (c.raised.ensures
     ∙ ap (raised 1) (c.raised-up.ensures ∙ ap (raised 1) c.inside.ensures)) c.expr-d.ensures)

@@ -1,0 +1,5 @@
+use Rattle.compiler.proofs.Done.{emits_one}
+use Rattle.compiler.proofs.steps.put_to.Goals as goal
+
+pub returns : goal.returns
+returns c = search emits_one
