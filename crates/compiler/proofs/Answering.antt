@@ -34,7 +34,7 @@ use Rattle.symbols.specs.declared.Unread.{Unread}
 use Rattle.tree.specs.Read.{padded, decoded}
 use Rattle.code.specs.Generate.{functions_code, strings_code, starts_code, items_of, text_of}
 use Rattle.writing.specs.Text.{Text, Appends, over, lines}
-use Rattle.writing.proofs.Laws.{over-length, lines_then, appends-none, appends-then, appends-as, upto-in}
+use Rattle.writing.proofs.Laws.{over-length, lines_then, appends_none, appends_then, appends_as, upto-in}
 use Rattle.compiler.specs.declared.program.Done.{Done}
 use Rattle.compiler.specs.Groups.{FineDs, Starting, encode_function, function_count, CountsFunctions}
 use Rattle.compiler.specs.Programs.{starts_of, ReadyProgram, Walked, GaveProgram}
@@ -123,7 +123,7 @@ start-told table ns k = go (has_start ns) refl (get_or table 1 0) refl
 
 nothing_put : (first : ℕ) {at : ℕ} {t : List ℕ} → Appends (lines (strings_code first [])) at at t t
 unfolding lines strings_code
-nothing_put first = appends-none
+nothing_put first = appends_none
 
 text-start : (t : List ℕ) → Text t [] 0 t
 unfolding over
@@ -182,7 +182,7 @@ pub behind-gave : {source s s' table t t₁ t₂ t₃ : List ℕ} {count names f
 behind-gave {source} {s} {s'} {table} {t} {t₁} {t₂} {t₃} {count} {names} {functions} {at} w v c = record {
   clean = w.clean;
   by = λ ss fs e k n long few start. let shifted = rw (add-one functions) at (w.by ss e k n) in
-      appends-as (appends-then (appends-then shifted (v.by fs long few start)) c)
+      appends_as (appends_then (appends_then shifted (v.by fs long few start)) c)
       (rw (lines_then (strings_code (suc functions) (strings_among source ss)) (starts_code 1 fs)));
 }
 

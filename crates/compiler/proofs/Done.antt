@@ -7,7 +7,7 @@ use Rattle.compiler.proofs.Language.{Fault, fault, of_expr, greatest}
 use Rattle.code.specs.Generate as G
 use Rattle.code.specs.Generate.{expr_code, expr_labels}
 use Rattle.writing.specs.Text.{Appends, line, lines}
-use Rattle.writing.proofs.Laws.{appends-none, appends-then, appends-as, lines_then}
+use Rattle.writing.proofs.Laws.{appends_none, appends_then, appends_as, lines_then}
 use Rattle.compiler.proofs.Scoping.{means-unknown, means-local, means-global, means-manifest, means-function}
 use Rattle.compiler.proofs.Vocabulary.{State, Here, Node, inside, NodeAt, key, least, AllFit, no_fit, and_fit, Code, Did, Emits, Reached}
 use Rattle.compiler.proofs.Vocabulary.{Faulted, Means, Fresh, LeavesTo}
@@ -54,7 +54,7 @@ fit-right (f ∷ a) b (and_fit p n r) = fit-right a b r
 pub emits_one : {st : State} {i : I.Item} {at : ℕ} {t t' : List ℕ} → Appends (line i) st.at at t t'
     → Emits (i ∷ []) [] t t' st (record { at = at; label = st.label; worst = st.worst; high = st.high })
 unfolding lines greatest
-emits_one {i = i} p = record { text = appends-as p (append-nil (line i)); high = refl; worst = refl; label = refl }
+emits_one {i = i} p = record { text = appends_as p (append-nil (line i)); high = refl; worst = refl; label = refl }
 
 step-max : (h x : ℕ) → max x h ≡ cond (ltb x h) h x
 step-max h x = by_cases (ltb x h) (λ e. let l = ltb-true x h e in rw e (omega arith)) (λ e. let l = ltb-false x h e in rw e (omega arith))
@@ -62,7 +62,7 @@ step-max h x = by_cases (ltb x h) (λ e. let l = ltb-true x h e in rw e (omega a
 pub reached_max : {h high : ℕ} {st : State} → high ≡ max st.high h
     → Reached h st (record { at = st.at; label = st.label; worst = st.worst; high = high })
 unfolding lines greatest
-reached_max {h} {st = st} e = record { by = λ t. record { text = appends-none; high = e ∙ step-max h st.high; worst = refl; label = refl } }
+reached_max {h} {st = st} e = record { by = λ t. record { text = appends_none; high = e ∙ step-max h st.high; worst = refl; label = refl } }
 
 fault-not : {place number : ℕ} → fault place number ≡ [] → ⊥
 fault-not {place} {number} e = let z : length (fault place number) ≡ 0 = ap length e in omega arith
@@ -88,7 +88,7 @@ faulted_least {place} {number} {st = st} fits en e = record {
 pub emits_then : {xs ys : List I.Item} {hs ks : List ℕ} {t t₁ t₂ : List ℕ} {st a b : State} → Emits xs hs t t₁ st a → Emits ys ks t₁ t₂ a b
     → Emits (xs ++ ys) (hs ++ ks) t t₂ st b
 emits_then {xs} {ys} {hs} {ks} {st = st} f g = record {
-  text = appends-as (appends-then f.text g.text) (lines_then xs ys);
+  text = appends_as (appends_then f.text g.text) (lines_then xs ys);
   high = rw (g.high, f.high, greatest-then st.high hs ks);
   worst = g.worst ∙ f.worst;
   label = g.label ∙ f.label;
@@ -96,7 +96,7 @@ emits_then {xs} {ys} {hs} {ks} {st = st} f g = record {
 
 pub emits_none : {t : List ℕ} {st : State} → Emits [] [] t t st st
 unfolding lines greatest
-emits_none = record { text = appends-none; high = refl; worst = refl; label = refl }
+emits_none = record { text = appends_none; high = refl; worst = refl; label = refl }
 
 -- no faults
 pub emits-did : {xs : List I.Item} {hs : List ℕ} {t t' : List ℕ} {st r : State} (code : ℕ → Code) → Emits xs hs t t' st r
@@ -127,7 +127,7 @@ did_then {fs} {gs} {f} {g} {st = st} x y = record {
   grows = omega arith;
   clean = λ n. let w = x.clean (nil-left fs gs n) in let v = rw w.label at (y.clean (nil-right fs gs n)) in let l = (f st.label).labels in
       record {
-        text = appends-as (appends-then w.text v.text) (lines_then (f st.label).items (g (st.label + l)).items);
+        text = appends_as (appends_then w.text v.text) (lines_then (f st.label).items (g (st.label + l)).items);
         high = rw (v.high, w.high, greatest-then st.high (f st.label).heights (g (st.label + l)).heights);
         label = omega arith;
       };

@@ -7,7 +7,7 @@ use Rattle.items.specs.Item as I
 use Rattle.language.specs.Resolved.{Start, nowhere, in_global, Fun}
 use Rattle.code.specs.Generate.{start_in, starts_code}
 use Rattle.writing.specs.Text.{Appends, line, lines}
-use Rattle.writing.proofs.Laws.{appends-then, appends-as, appends-none, lines_then}
+use Rattle.writing.proofs.Laws.{appends_then, appends_as, appends_none, lines_then}
 use Rattle.compiler.proofs.Vocabulary.{Starting, starts_of}
 use Rattle.compiler.specs.Strings.{FindsGlobal, StartsAt, WritesStart, WritesStarts}
 
@@ -36,11 +36,11 @@ passed-end h p = record { is = λ m l. contradiction cc; none = λ _ m l e. p.no
 pub start-put : {table : List ℕ} {label n at r : ℕ} {g : Option ℕ} {t t' : List ℕ} → FindsGlobal table label g → g ≡ Some n
     → Appends (line (I.global n label)) at r t t' → WritesStart table label at r t t'
 unfolding lines
-start-put {table} {label} {n} f h p = record { by = λ start s. rw (s.is n (f.is n h).0 (f.is n h).1) (appends-as p (append-nil (line (I.global n label)))) }
+start-put {table} {label} {n} f h p = record { by = λ start s. rw (s.is n (f.is n h).0 (f.is n h).1) (appends_as p (append-nil (line (I.global n label)))) }
 
 pub start_none : {table : List ℕ} {label at : ℕ} {g : Option ℕ} {t : List ℕ} → FindsGlobal table label g → g ≡ None → WritesStart table label at at t t
 unfolding lines
-start_none f h = record { by = elim [ nowhere ↦ λ s. appends-none | in_global m ↦ λ s. absurd (let q = s.has m refl in f.none h m q.0 q.1) ] }
+start_none f h = record { by = elim [ nowhere ↦ λ s. appends_none | in_global m ↦ λ s. absurd (let q = s.has m refl in f.none h m q.0 q.1) ] }
 
 -- ---- all of them: k functions are done
 
@@ -56,7 +56,7 @@ pub record StartsSoFar (table : List ℕ) (functions k at x : ℕ) (t t' : List 
 
 pub starts-begin : {table : List ℕ} {functions at : ℕ} {t : List ℕ} → StartsSoFar table functions 0 at at t t
 unfolding starts_code lines
-starts-begin = record { by = λ fs l e s. record { done = []; rest = fs; all = refl; count = refl; text = appends-none } }
+starts-begin = record { by = λ fs l e s. record { done = []; rest = fs; all = refl; count = refl; text = appends_none } }
 
 starts-then : (l : ℕ) (a b : List Fun) → starts_code l (a ++ b) ≡ starts_code l a ++ starts_code (l + length a) b
 unfolding starts_code
@@ -104,7 +104,7 @@ starts-next {k = k} h w q = record {
         rest = b;
         all = a ∙ sym (append_assoc y.done (f ∷ []) b);
         count = omega (arith, length-append y.done (f ∷ []));
-        text = appends-as (appends-then y.text (w.by f.start (rw j (one-start f.start l s g))))
+        text = appends_as (appends_then y.text (w.by f.start (rw j (one-start f.start l s g))))
             (ap lines (starts-then 1 y.done (f ∷ []) ∙ rw j') ∙ lines_then (starts_code 1 y.done) (start_in f.start (k + 1) []));
       };
 }
@@ -114,5 +114,5 @@ pub starts-end : {table : List ℕ} {functions k at x : ℕ} {t t' : List ℕ} �
 starts-end h q = record {
   by = λ fs l e s. let y = q.by fs l e s in
       let z = no-fun y.rest (omega (arith, ap length y.all, length-append y.done y.rest)) in
-      appends-as y.text (simp (y.all, z, append-nil));
+      appends_as y.text (simp (y.all, z, append-nil));
 }

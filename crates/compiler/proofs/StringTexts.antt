@@ -14,34 +14,34 @@ use Rattle.language.specs.Whole.{strings_among}
 use Rattle.code.specs.Generate.{strings_code}
 use Rattle.tree.specs.Read.{decoded}
 use Rattle.writing.specs.Text.{Appends, line, lines}
-use Rattle.writing.proofs.Laws.{appends-then, appends-as, appends-none, lines_then}
+use Rattle.writing.proofs.Laws.{appends_then, appends_as, appends_none, lines_then}
 use Rattle.compiler.specs.Strings.{string_count, one_if, Ends, AllEnd, Escapes, WritesCharacters, WritesString, symbol_code, WritesSymbol}
 use Rattle.compiler.specs.Strings.{WritesStrings}
 use Rattle.compiler.proofs.StringsEnd.{first_ends, others-end}
 
 pub two_bytes : {a b at x r : ℕ} {t t₁ t₂ : List ℕ} → Appends (a ∷ []) at x t t₁ → Appends (b ∷ []) x r t₁ t₂ → Appends (a ∷ b ∷ []) at r t t₂
-two_bytes p q = appends-then p q
+two_bytes p q = appends_then p q
 
 -- ---- a character
 
 -- four bytes, one after the other
 pub four_bytes : {a b c d at x y z r : ℕ} {t t₁ t₂ t₃ t₄ : List ℕ} → Appends (a ∷ []) at x t t₁ → Appends (b ∷ []) x y t₁ t₂
     → Appends (c ∷ []) y z t₂ t₃ → Appends (d ∷ []) z r t₃ t₄ → Appends (a ∷ b ∷ c ∷ d ∷ []) at r t t₄
-four_bytes p q u v = appends-then p (appends-then q (appends-then u v))
+four_bytes p q u v = appends_then p (appends_then q (appends_then u v))
 
 module _ {c at r : ℕ} {t t' : List ℕ} where
   pub plain_low : c < 32 → Appends (42 ∷ (48 + c / 100) ∷ (48 + c / 10 % 10) ∷ (48 + c % 10) ∷ []) at r t t' → Appends (plain_text c) at r t t'
   unfolding plain_text
-  plain_low h p = appends-as p (rw (lt-leb 32 c h))
+  plain_low h p = appends_as p (rw (lt-leb 32 c h))
 
   pub plain_high : 32 ≤ c → 126 < c → Appends (42 ∷ (48 + c / 100) ∷ (48 + c / 10 % 10) ∷ (48 + c % 10) ∷ []) at r t t'
       → Appends (plain_text c) at r t t'
   unfolding plain_text
-  plain_high l h p = appends-as p (rw (le-leb 32 c l, lt-leb c 126 h))
+  plain_high l h p = appends_as p (rw (le-leb 32 c l, lt-leb c 126 h))
 
   pub plain_itself : 32 ≤ c → c ≤ 126 → Appends (c ∷ []) at r t t' → Appends (plain_text c) at r t t'
   unfolding plain_text
-  plain_itself l h p = appends-as p (rw (le-leb 32 c l, le-leb c 126 h))
+  plain_itself l h p = appends_as p (rw (le-leb 32 c l, le-leb c 126 h))
 
 pub no-escape : {c : ℕ} → Unlike c (34 ∷ 42 ∷ 13 ∷ 12 ∷ 8 ∷ 9 ∷ 10 ∷ []) → Escapes c 0
 unfolding character_text
@@ -56,11 +56,11 @@ pub escapes : {c : ℕ} (k e : ℕ) → c ≡ k → (e ≡ 0 → ⊥) → charac
 escapes k e q n h = record { plain = λ z. absurd (n z); starred = λ _. rw q h }
 
 pub put-plain : {c e at r : ℕ} {t t' : List ℕ} → Escapes c e → e ≡ 0 → Appends (plain_text c) at r t t' → Appends (character_text c) at r t t'
-put-plain x z p = appends-as p (x.plain z)
+put-plain x z p = appends_as p (x.plain z)
 
 pub put-starred : {c e at x r : ℕ} {t t₁ t₂ : List ℕ} → Escapes c e → (e ≡ 0 → ⊥) → Appends (42 ∷ []) at x t t₁ → Appends (e ∷ []) x r t₁ t₂
     → Appends (character_text c) at r t t₂
-put-starred x n p q = appends-as (two_bytes p q) (x.starred n)
+put-starred x n p q = appends_as (two_bytes p q) (x.starred n)
 
 -- ---- the characters up to the quote: `done` are written, `rest` is left
 
@@ -77,7 +77,7 @@ pub record Spelling (source : List ℕ) (from i at x : ℕ) (t t' : List ℕ) : 
 
 pub spelling-begin : {source : List ℕ} {from at : ℕ} {t : List ℕ} → Spelling source from from at at t t
 unfolding characters_text
-spelling-begin = record { by = λ cs width e. record { done = []; rest = cs; width = width; all = refl; left = e; text = appends-none } }
+spelling-begin = record { by = λ cs width e. record { done = []; rest = cs; width = width; all = refl; left = e; text = appends_none } }
 
 characters-then : (a b : List ℕ) → characters_text (a ++ b) ≡ characters_text a ++ characters_text b
 unfolding characters_text
@@ -94,7 +94,7 @@ spelling-next {source} {i = i} {c = c} {w} e p q = record {
     width = n.width;
     all = simp (k.all, n.are, append_assoc);
     left = n.more;
-    text = appends-as (appends-then k.text p) (simp (characters-then k.done (c ∷ []), append-nil));
+    text = appends_as (appends_then k.text p) (simp (characters-then k.done (c ∷ []), append-nil));
   };
 }
 
@@ -103,7 +103,7 @@ module _ {source : List ℕ} {from i at x : ℕ} {t t' : List ℕ} where
   pub spelling-end : character 34 (drop i source) ≡ closing → Spelling source from i at x t t' → WritesCharacters source from at x t t'
   spelling-end e q = record {
     by = λ cs width z. let k = q.by cs width z in let g = closed-end 34 255 source i k.left e in
-        appends-as k.text (ap characters_text (simp (k.all, g, append-nil)));
+        appends_as k.text (ap characters_text (simp (k.all, g, append-nil)));
   }
 
   pub spelling-ended : character 34 (drop i source) ≡ ended → Spelling source from i at x t t' → WritesCharacters source from at x t t'
@@ -120,19 +120,19 @@ pub string-put : {source : List ℕ} {place at a b c d r : ℕ} {t t₁ t₂ t�
 unfolding line render
 string-put {source} {place} p q w u v = record {
   by = λ e. let z : place + 1 ≡ suc place = omega arith in
-      appends-as (appends-then p (appends-then q (appends-then (w.by e.characters e.width (rw z e.closes)) (appends-then u v))))
+      appends_as (appends_then p (appends_then q (appends_then (w.by e.characters e.width (rw z e.closes)) (appends_then u v))))
       (simp append_assoc);
 }
 
 pub symbol-none : {source : List ℕ} {kind place l at : ℕ} {t : List ℕ} → (kind ≡ STRING → ⊥) → WritesSymbol source kind place l at at t t
 unfolding symbol_code lines
-symbol-none {source} {kind} n = record { by = λ e. rw (ne_eqb kind STRING n) appends-none }
+symbol-none {source} {kind} n = record { by = λ e. rw (ne_eqb kind STRING n) appends_none }
 
 pub symbol-put : {source : List ℕ} {kind place l at x r : ℕ} {t t₁ t₂ : List ℕ} → kind ≡ STRING → Appends (line (I.label l)) at x t t₁
     → WritesString source place x r t₁ t₂ → WritesSymbol source kind place l at r t t₂
 unfolding symbol_code lines
 symbol-put {source} {kind} q p w =
-    record { by = λ e. let z = e q in rw (eq-eqb kind STRING q, z.closes) (appends-as (appends-then p (w.by z)) (simp append-nil)) }
+    record { by = λ e. let z = e q in rw (eq-eqb kind STRING q, z.closes) (appends_as (appends_then p (w.by z)) (simp append-nil)) }
 
 -- ---- loops over the symbols: those from i on
 
@@ -204,7 +204,7 @@ pub record Listing (source s : List ℕ) (count first i n at x : ℕ) (t t' : Li
 pub listing-begin : {source s : List ℕ} {count first at : ℕ} {t : List ℕ} → Listing source s count first 0 first at at t t
 unfolding strings_code lines
 listing-begin {source} {s} {count} = record {
-  by = λ e. record { done = []; next = omega arith; ends = rw (symbols-all count s) e; all = rw (symbols-all count s) refl; text = appends-none };
+  by = λ e. record { done = []; next = omega arith; ends = rw (symbols-all count s) e; all = rw (symbols-all count s) refl; text = appends_none };
 }
 
 strings-then : (l : ℕ) (a b : List (List ℕ)) → strings_code l (a ++ b) ≡ strings_code l a ++ strings_code (l + length a) b
@@ -243,7 +243,7 @@ listing-next {source} {s} {count} {first} {i} {n} {at} {x} {r} {k} {p} h ek ep e
         ends = others-end a;
         all = y.all ∙ ap (λ (z : List (List ℕ)). y.done ++ z) (ap (strings_among source) m ∙ of-symbol-first source _ (symbols_from count s (i + 1))
             ∙ rw (ek, ep) refl) ∙ sym (append_assoc y.done o (strings_among source (symbols_from count s (i + 1))));
-        text = appends-as (appends-then y.text (w.by f)) (cc (strings-then first y.done o, j, of-symbol-code source k p n));
+        text = appends_as (appends_then y.text (w.by f)) (cc (strings-then first y.done o, j, of-symbol-code source k p n));
       };
 }
 
@@ -251,5 +251,5 @@ pub listing-end : {source s : List ℕ} {count first i n at x : ℕ} {t t' : Lis
     → WritesStrings source s count first at x t t'
 unfolding strings_among
 listing-end {source} {s} {count} {first} {i} h q = record {
-  by = λ e. let y = q.by e in appends-as y.text (simp (y.all, symbols-none count s i h, append-nil));
+  by = λ e. let y = q.by e in appends_as y.text (simp (y.all, symbols-none count s i h, append-nil));
 }

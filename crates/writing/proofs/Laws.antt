@@ -67,14 +67,14 @@ passed {t} {at} b h = record {
       };
 }
 
-pub appends-then : {w w' : List ℕ} {at x r : ℕ} {t t₁ t₂ : List ℕ} → Appends w at x t t₁ → Appends w' x r t₁ t₂ → Appends (w ++ w') at r t t₂
-appends-then {w} {w'} {r = r} {t₂ = t₂} f g = record {
+pub appends_then : {w w' : List ℕ} {at x r : ℕ} {t t₁ t₂ : List ℕ} → Appends w at x t t₁ → Appends w' x r t₁ t₂ → Appends (w ++ w') at r t t₂
+appends_then {w} {w'} {r = r} {t₂ = t₂} f g = record {
   by = λ t₀ o k.
       subst (λ (l : List ℕ). Text t₀ l r t₂) (append_assoc o w w') (g.by t₀ (o ++ w) (f.by t₀ o k));
 }
 
-pub appends-as : {w w' : List ℕ} {at r : ℕ} {t t' : List ℕ} → Appends w at r t t' → w' ≡ w → Appends w' at r t t'
-appends-as {w} {w'} {at} {r} {t} {t'} f e = subst (λ (l : List ℕ). Appends l at r t t') (sym e) f
+pub appends_as : {w w' : List ℕ} {at r : ℕ} {t t' : List ℕ} → Appends w at r t t' → w' ≡ w → Appends w' at r t t'
+appends_as {w} {w'} {at} {r} {t} {t'} f e = subst (λ (l : List ℕ). Appends l at r t t') (sym e) f
 
 -- numbers: their digits don't depend on the fuel
 enough : (f g n : ℕ) → n < f → n < g → numeral f n ≡ numeral g n
@@ -84,40 +84,40 @@ enough (suc f) zero n a b = absurd (omega arith)
 enough (suc f) (suc g) n a b = by_cases (ltb n 10) (λ e. rw e)
     (λ e. let l : 10 ≤ n = ltb-false n 10 e in rw (e, enough f g (n / 10) (omega arith) (omega arith)))
 
-pub numeral-one : (n : ℕ) → n < 10 → numeral_of n ≡ (48 + n) ∷ []
+pub numeral_one : (n : ℕ) → n < 10 → numeral_of n ≡ (48 + n) ∷ []
 unfolding numeral_of numeral
-numeral-one n h = rw (lt-ltb n 10 h)
+numeral_one n h = rw (lt-ltb n 10 h)
 
-pub numeral-more : (n : ℕ) → 10 ≤ n → numeral_of n ≡ numeral_of (n / 10) ++ ((48 + n % 10) ∷ [])
+pub numeral_more : (n : ℕ) → 10 ≤ n → numeral_of n ≡ numeral_of (n / 10) ++ ((48 + n % 10) ∷ [])
 unfolding numeral_of numeral
-numeral-more n h = rw (le-ltb n 10 h) (ap (λ (l : List ℕ). l ++ ((48 + n % 10) ∷ [])) (enough n (suc (n / 10)) (n / 10) (omega arith) (omega arith)))
+numeral_more n h = rw (le-ltb n 10 h) (ap (λ (l : List ℕ). l ++ ((48 + n % 10) ∷ [])) (enough n (suc (n / 10)) (n / 10) (omega arith) (omega arith)))
 
-pub appends-none : {at : ℕ} {t : List ℕ} → Appends [] at at t t
-appends-none {at} {t} = record { by = λ t₀ o k. subst (λ (l : List ℕ). Text t₀ l at t) (sym (append-nil o)) k }
+pub appends_none : {at : ℕ} {t : List ℕ} → Appends [] at at t t
+appends_none {at} {t} = record { by = λ t₀ o k. subst (λ (l : List ℕ). Text t₀ l at t) (sym (append-nil o)) k }
 
 -- items: a letter, then the rest
 module _ (f : ℕ) {x : ℕ} {at p : ℕ} {t t₁ : List ℕ} (e : x ≡ letter f) (a : Appends (x ∷ []) at p t t₁) where
   lettered : Appends (letter f ∷ []) at p t t₁
   lettered = subst (λ (b : ℕ). Appends (b ∷ []) at p t t₁) e a
 
-  pub instruction-put : (i : Bool) (b : I.Base) (n : ℕ) {q r z : ℕ} {t₂ t₃ t₄ : List ℕ}
+  pub instruction_put : (i : Bool) (b : I.Base) (n : ℕ) {q r z : ℕ} {t₂ t₃ t₄ : List ℕ}
       → Appends (indirect_text i) p q t₁ t₂ → Appends (base_text b) q r t₂ t₃ → Appends (numeral_of n ++ (10 ∷ [])) r z t₃ t₄
       → Appends (line (I.instruction f i b (I.number false n))) at z t t₄
   unfolding line render operand_text
-  instruction-put i b n c d g = appends-as (appends-then lettered (appends-then c (appends-then d g))) (ap (λ (l : List ℕ). letter f ∷ l)
+  instruction_put i b n c d g = appends_as (appends_then lettered (appends_then c (appends_then d g))) (ap (λ (l : List ℕ). letter f ∷ l)
       (append_assoc (indirect_text i) (base_text b ++ numeral_of n) (10 ∷ []) ∙
       ap (λ (l : List ℕ). indirect_text i ++ l) (append_assoc (base_text b) (numeral_of n) (10 ∷ []))))
 
-  pub labelled-put : (n : ℕ) {z : ℕ} {t₂ : List ℕ} → Appends (76 ∷ (numeral_of n ++ (10 ∷ []))) p z t₁ t₂
+  pub labelled_put : (n : ℕ) {z : ℕ} {t₂ : List ℕ} → Appends (76 ∷ (numeral_of n ++ (10 ∷ []))) p z t₁ t₂
       → Appends (line (I.instruction f false I.none (I.address n))) at z t t₂
   unfolding line render operand_text indirect_text base_text
-  labelled-put n c = appends-then lettered c
+  labelled_put n c = appends_then lettered c
 
-pub global-put : (n m : ℕ) {at p q z : ℕ} {t t₁ t₂ t₃ : List ℕ}
+pub global_put : (n m : ℕ) {at p q z : ℕ} {t t₁ t₂ t₃ : List ℕ}
     → Appends (71 ∷ []) at p t t₁ → Appends (numeral_of n) p q t₁ t₂ → Appends (76 ∷ (numeral_of m ++ (10 ∷ []))) q z t₂ t₃
     → Appends (line (I.global n m)) at z t t₃
 unfolding line render
-global-put n m a b c = appends-as (appends-then a (appends-then b c))
+global_put n m a b c = appends_as (appends_then a (appends_then b c))
     (ap (λ (l : List ℕ). 71 ∷ l) (append_assoc (numeral_of n) (76 ∷ numeral_of m) (10 ∷ [])))
 
 -- lines one after another
