@@ -117,7 +117,8 @@ fn marked(bytes: &[u8], c: u8) -> bool
     }
 }
 
-// A number; 65,536 stands for all that are larger.
+// A number; 65,536 stands for all that are larger. Symbols' `digits_at` is alike for a source's numbers, of two bases and by the language's
+// definitions: one function for both would stand on two definitions of a number, and be no plainer.
 #[tactic(auto, using(crate::proofs::Decimals::digit_steps), unfolding(crate::specs::Reader::decimal, crate::specs::Reader::head))]
 fn read_decimal(bytes: &[u8]) -> Option<Part<u32>>
     ensures reads { as_got (λ n. n) result ≡ decimal bytes.now }

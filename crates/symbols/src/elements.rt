@@ -121,6 +121,7 @@ fn and_digit(base: usize, n: usize, c: usize) -> usize
     (n * base + (c - 48)).min(65536)
 }
 
+// Alike but not one with `read_decimal` of items, which says why.
 fn digits_at(bytes: &[u8], base: usize) -> Digits
     requires { (1 ≤ base) × (base ≤ 10) }
     ensures { (result.count ≡ digits base bytes.now) × (result.value ≡ capped (value_of base 0 bytes.now)) }

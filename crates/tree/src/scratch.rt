@@ -18,6 +18,7 @@ pub(crate) enum State {
     Refused { fault: Fault, at: usize },
 }
 
+// The three entries of the symbol here. One function that is told which would have to say what each is where no symbol stands: no plainer.
 pub(crate) fn kind_here(s: &[u32], n: usize, r: State) -> u32
     requires { Ready 0 s.now n r }
     ensures { (src : Source) → HoldsSymbols src n s.now → KindHere src r result }
