@@ -1,12 +1,11 @@
 -- Laws of spelling, of the stack of names, and of what is pushed on it.
 use Rattle.laws.proofs.Basics.{ℕ, zero, suc, ◌+◌, ◌-◌, ◌*◌, ◌/◌, ◌%◌, ◌<◌, ◌≤◌, min, ◌≡◌, refl, sym, ap, ◌∙◌, List, [], ◌∷◌, Bool, true, false, cond}
-use Rattle.laws.proofs.Basics.{length, get_or, set, take, drop, length-set, length-take, length-drop, get_or-drop, get_or-set_same, get_or-set_other}
-use Rattle.laws.proofs.Basics.{eqb}
+use Rattle.laws.proofs.Basics.{length, get_or, set, take, drop, length-set, length-take, take-length, length-drop, get_or-drop, get_or-set_same}
+use Rattle.laws.proofs.Basics.{get_or-set_other, eqb}
 use Rattle.laws.proofs.Basics.{leb, arith, eq-eqb, ne_eqb, eqb-true, eqb-false, leb-true, leb-false, List·getD-eq-default}
 use Rattle.laws.proofs.Cases.{by_cases, either}
 use Rattle.std.specs.Prelude.{Option, Some}
 use native.Mathlib.Numerals.{unary_clauses}
-use lib.Pointwise.{pointwise}
 use Rattle.compiler.proofs.Language.{Name, Meaning, local, global, manifest, function, Found, unknown, known, Scope, opened, declared, lookup}
 use Rattle.compiler.proofs.Language.{in_block, same_bytes, same_name, FineName}
 use Rattle.compiler.specs.declared.scope.Meaning as D
@@ -79,16 +78,31 @@ module _ (text : List ℕ) (p q i : ℕ) (h : 1 ≤ i) (hp : p + i ≤ length te
   differs e = sym (whole ∙ last_byte (i - 1) (drop p text) (drop q text) (within p hp) (within q hq)
       ∙ rw (ne_eqb _ _ (λ z. e (byte p ∙ z ∙ sym (byte q)))))
 
--- what the slices' own test says
-tested : (x y : List ℕ) → pointwise eqb x y ≡ same_bytes x y
-unfolding same_bytes
-tested [] [] = refl
-tested [] (b ∷ y) = refl
-tested (a ∷ x) [] = refl
-tested (a ∷ x) (b ∷ y) = by_cases (eqb a b) (λ e. rw (e, tested x y)) (λ e. rw e)
+-- bytes that are the same from the last one back, down to one
+abbrev pub SameDownTo : (i : ℕ) (x y : List ℕ) → Type 0
+SameDownTo i x y = same_bytes x y ≡ same_bytes (take i x) (take i y)
 
-pub bytes-test : (x y : List ℕ) {r : Bool} → r ≡ pointwise eqb x y → r ≡ same_bytes x y
-bytes-test x y e = e ∙ tested x y
+pub other_length : (x y : List ℕ) → (length x ≡ length y → ⊥) → false ≡ same_bytes x y
+other_length x y h = sym (same_bytes-length x y h)
+
+pub same-starts : (x y : List ℕ) → length x ≡ length y → SameDownTo (length x) x y
+same-starts x y h = let e : take (length x) y ≡ y = rw h (take-length y) in rw (take-length x, e) refl
+
+module _ (x y : List ℕ) (i : ℕ) (inv : SameDownTo i x y) where
+  module _ (h : 0 < i) (hx : i ≤ length x) (hy : i ≤ length y) where
+    by-last : same_bytes x y ≡ cond (eqb (get_or x (i - 1) 0) (get_or y (i - 1) 0)) (same_bytes (take (i - 1) x) (take (i - 1) y)) false
+    by-last = let e : i ≡ suc (i - 1) = omega arith in
+        inv ∙ ap (λ (k : ℕ). same_bytes (take k x) (take k y)) e ∙ last_byte (i - 1) x y (omega arith) (omega arith)
+
+    pub same-goes_on : get_or x (i - 1) 0 ≡ get_or y (i - 1) 0 → SameDownTo (i - 1) x y
+    same-goes_on e = by-last ∙ rw (eq-eqb _ _ e)
+
+    pub same-differs : (get_or x (i - 1) 0 ≡ get_or y (i - 1) 0 → ⊥) → false ≡ same_bytes x y
+    same-differs e = sym (by-last ∙ rw (ne_eqb _ _ e))
+
+  pub same-ends : i ≤ 0 → true ≡ same_bytes x y
+  unfolding same_bytes
+  same-ends h = let e : i ≡ 0 = omega arith in sym (inv ∙ rw e)
 
 -- where the last bytes differ, the bytes do: where one reaches past the end, so does the other, or their widths differ
 pub other_last : (text : List ℕ) (p q n : ℕ) → 0 < n → (get_or text (p + (n - 1)) 0 ≡ get_or text (q + (n - 1)) 0 → ⊥)

@@ -64,7 +64,23 @@ fn part(source: &[u8], place: usize, n: usize) -> &[u8]
     &rest[..n.min(rest.len())]
 }
 
-// Whether so many bytes at two places of the source are the same: `last` is the last byte at `q`, and names that differ mostly do in that.
+// Whether bytes are the same, from the last one back: names of one width that differ mostly do near their ends. (The slices' own `==` goes
+// from the front, and long names cost it more.)
+fn same(a: &[u8], b: &[u8]) -> bool
+    ensures { result ≡ same_bytes a.now b.now }
+{
+    if a.len() != b.len() {
+        return false;
+    }
+    for i in (0..a.len()).rev() {
+        if a[i] != b[i] {
+            return false;
+        }
+    }
+    true
+}
+
+// Whether so many bytes at two places of the source are the same: `last` is the last byte at `q`.
 fn alike(source: &[u8], p: usize, q: usize, n: usize, last: u8) -> bool
     requires { (p < 2 ^ 32) × (q < 2 ^ 32) × (n < 2 ^ 32) × (last ≡ get_or source.now (q + (n - 1)) 0) }
     ensures { result ≡ same_bytes (take n (drop p source.now)) (take n (drop q source.now)) }
@@ -72,7 +88,7 @@ fn alike(source: &[u8], p: usize, q: usize, n: usize, last: u8) -> bool
     if n > 0 && last_byte(source, p, n) != last {
         return false;
     }
-    part(source, p, n) == part(source, q, n)
+    same(part(source, p, n), part(source, q, n))
 }
 
 // Whether a name of the stack is spelt like one of that place, width and last byte.
@@ -93,7 +109,8 @@ fn stacked(s: &[u32], i: usize) -> usize
 }
 
 // What a leaf's name means, if it is known: blocks from the innermost out, and the names of each. Nested labelled loops, the form that
-// document 01 names.
+// document 01 names. A function of its own for speed, as `in_block`: inlined into the walk of the tree, it has too few registers.
+#[inline(never)]
 pub(crate) fn lookup(source: &[u8], s: &[u32], top: usize, leaf: usize) -> Option<Meaning>
     requires { leaf < 2 ^ 32 }
     ensures { Looked source.now s.now top leaf (code_of result) × (code_of result < 2 ^ 32) }
@@ -123,6 +140,7 @@ pub(crate) fn lookup(source: &[u8], s: &[u32], top: usize, leaf: usize) -> Optio
 }
 
 // What a leaf's name means in the innermost block itself, if it is there.
+#[inline(never)]
 pub(crate) fn in_block(source: &[u8], s: &[u32], top: usize, leaf: usize) -> Option<Meaning>
     requires { leaf < 2 ^ 32 }
     ensures { Told source.now s.now top leaf (code_of result) }

@@ -3,12 +3,12 @@ use Rattle.laws.proofs.Basics.{ℕ, ◌+◌, ◌<◌, ◌≤◌, ◌≡◌, refl
 use Rattle.std.specs.Prelude.{Some, None, Err}
 use Rattle.laws.proofs.Cases.{contradiction}
 use Rattle.text.specs.Quoted.{Quoted, closed, unclosed, faulty, character, quoted}
-use Rattle.text.specs.Parts.{value_of}
+use Rattle.text.specs.Parts.{value_if}
 use Rattle.text.specs.Answers as A
 use Rattle.text.specs.Answers.{counted, found}
 use Rattle.text.specs.declared.Flaw.{Flaw}
 use Rattle.text.specs.declared.Flaw.TheVariants.{Unclosed, Faulty}
-use Rattle.text.proofs.Quotes.{first-is, is-closed}
+use Rattle.text.proofs.Quotes.{first-if, is-closed}
 use Rattle.text.proofs.Answers.{Counted, when-closed, when-unclosed, when-faulty}
 use Rattle.items.specs.Item.{number}
 use Rattle.items.specs.Reader.{got, nothing, head}
@@ -58,18 +58,18 @@ module _ (bytes : List ℕ) where
     h : Counted (quoted 39 1 0 bytes) n w
     h = when-closed _ e
 
-    pub a_character : {v : ℕ} → Some v ≡ value_of (character 39 bytes) → quoted_character bytes ≡ got (number false v) w
+    pub a_character : {v : ℕ} → Some v ≡ value_if (character 39 bytes) → quoted_character bytes ≡ got (number false v) w
     unfolding quoted_character
     a_character {v} k = by h.characters h.is
       where
         by : (cs : List ℕ) → quoted 39 1 0 bytes ≡ closed cs w → as_character (quoted 39 1 0 bytes) ≡ got (number false v) w
-        by [] f = let z : Some v ≡ None = k ∙ first-is 39 1 bytes f in contradiction cc
-        by (c ∷ cs) f = let z : Some v ≡ Some c = k ∙ first-is 39 1 bytes f in rw f cc
+        by [] f = let z : Some v ≡ None = k ∙ first-if 39 1 bytes f in contradiction cc
+        by (c ∷ cs) f = let z : Some v ≡ Some c = k ∙ first-if 39 1 bytes f in rw f cc
 
-    pub no_value : None ≡ value_of (character 39 bytes) → quoted_character bytes ≡ nothing
+    pub no_value : None ≡ value_if (character 39 bytes) → quoted_character bytes ≡ nothing
     unfolding quoted_character
     no_value k = by h.characters h.is
       where
         by : (cs : List ℕ) → quoted 39 1 0 bytes ≡ closed cs w → as_character (quoted 39 1 0 bytes) ≡ nothing
         by [] f = rw f
-        by (c ∷ cs) f = let z : None ≡ Some c = k ∙ first-is 39 1 bytes f in contradiction cc
+        by (c ∷ cs) f = let z : None ≡ Some c = k ∙ first-if 39 1 bytes f in contradiction cc

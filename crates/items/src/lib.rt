@@ -148,7 +148,7 @@ fn read_quoted(bytes: &[u8]) -> Option<Part<Operand>>
     let Ok(Closed { width, .. }) = text::quoted_at(bytes, 0, b'\'', 1) else {
         return None;
     };
-    let value = text::value_at(bytes, 0, b'\'')?;
+    let value = text::value_if_at(bytes, 0, b'\'')?;
     Some(Part {
         value: Operand::Number {
             minus: false,

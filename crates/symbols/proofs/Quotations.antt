@@ -1,7 +1,5 @@
 -- Characters and strings of the source, from what is read between their quotes.
-use Rattle.laws.proofs.Basics.{ℕ, suc, ◌+◌, ◌≡◌, ap, ◌∙◌, List, [], ◌∷◌, length, arith}
-use Rattle.std.specs.Prelude.{Option, Some}
-use Rattle.std.specs.Option.{unwrap_or}
+use Rattle.laws.proofs.Basics.{ℕ, suc, ◌+◌, ◌≡◌, ◌∙◌, List, [], ◌∷◌, length, arith}
 use Rattle.text.specs.Quoted as Q
 use Rattle.text.specs.Quoted.{closed, unclosed, faulty, quoted}
 use Rattle.text.specs.Parts.{value_of}
@@ -21,15 +19,13 @@ module _ (bs : List ℕ) where
         by [] e k = rw e
         by (c ∷ cs) e k = absurd (omega arith)
 
-    pub a-character : {v : ℕ} {r : Option ℕ} → (n ≡ 0 → ⊥) → r ≡ value_of (Q.character 39 bs) → v ≡ unwrap_or r 0
-        → symbol 60 v (w + 1) ≡ character bs
+    pub a-character : {v : ℕ} → (n ≡ 0 → ⊥) → v ≡ value_of (Q.character 39 bs) → symbol 60 v (w + 1) ≡ character bs
     unfolding character
-    a-character {v} {r} some f u = by h.characters h.is h.count
+    a-character {v} some f = by h.characters h.is h.count
       where
         by : (cs : List ℕ) → quoted 39 1 0 bs ≡ closed cs w → n ≡ length cs → symbol 60 v (w + 1) ≡ character bs
         by [] e k = absurd (some k)
-        by (c ∷ cs) e k = let q : r ≡ Some c = f ∙ first-is 39 1 bs e in let z : v ≡ c = u ∙ ap (λ (o : Option ℕ). unwrap_or o 0) q in
-            let m : w + 1 ≡ suc w = omega arith in rw (e, z, m)
+        by (c ∷ cs) e k = let z : v ≡ c = f ∙ first-is 39 1 bs e in let m : w + 1 ≡ suc w = omega arith in rw (e, z, m)
 
   pub character-unclosed : quoted 39 1 0 bs ≡ unclosed → wrong 40 0 ≡ character bs
   unfolding character

@@ -1,4 +1,4 @@
--- The tables of spellings, and the search of a word or a sign in them, one row at a time.
+-- The table of spellings, and the search of a word in it, one row at a time; the signs by their first two bytes.
 use Rattle.laws.proofs.Basics.{ℕ, suc, ◌+◌, ◌<◌, ◌≤◌, ◌≡◌, refl, sym, ap, ◌∙◌, List, [], ◌∷◌, Bool, true, false, ◌&&◌, cond, length}
 use Rattle.laws.proofs.Basics.{get_or, drop, drop_of_length-le, drop-cons, eqb, add-zero, add-one, arith, eqb-true, eq-eqb, ne_eqb}
 use Rattle.laws.proofs.Cases.{by_cases, contradiction, both_true}
@@ -7,12 +7,12 @@ use Rattle.std.specs.Cmp.Lexicographic.{pointwise}
 use Rattle.std.specs.Prelude.{Some, None}
 use Rattle.std.specs.List.{starts_with, slice_get}
 use Rattle.text.specs.Written.{bytes}
-use Rattle.language.specs.Kinds.{Spelled, reserved, member}
+use Rattle.language.specs.Kinds.{Spelled, reserved, signs, member}
 use Rattle.language.specs.Symbols.{Element, symbol, wrong, begins, same, kind_in, kind_of, sign_in, sign}
 use Rattle.language.specs.Candidates.{candidates, candidates_in, compared_in, compared}
 use Rattle.language.proofs.Candidates.{kind-cons, kind-by-candidates}
 use Rattle.symbols.specs.Kinds.{number_of}
-use Rattle.symbols.specs.Spellings.{spelled_of, rows_of, of_length, Spans, Skips}
+use Rattle.symbols.specs.Spellings.{spelled_of, rows_of, of_length, Spans}
 use Rattle.symbols.specs.declared.spellings.Spelled as D
 use Rattle.symbols.proofs.Table.{every}
 
@@ -52,35 +52,6 @@ left-cons rows i d h = rw (drop-cons rows i d h, add-one)
 pub left-end : (rows : List D.Spelled) (i : ℕ) → length rows ≤ i → left rows i ≡ []
 unfolding rows_of
 left-end rows i h = rw (drop_of_length-le rows h)
-
--- ---- the search of a sign
-
-abbrev as_sign : Spelled → Element
-as_sign s = symbol s.kind 0 (length s.spelling)
-
-sign-cons : (s : Spelled) (ss : List Spelled) (bs : List ℕ) → sign_in (s ∷ ss) bs ≡ cond (begins s.spelling bs) (as_sign s) (sign_in ss bs)
-unfolding sign_in
-sign-cons s ss bs = elim (begins s.spelling bs) as (λ t. elim t [ true ↦ as_sign s | false ↦ sign_in ss bs ] ≡ cond t (as_sign s) (sign_in ss bs))
-    [ true ↦ refl | false ↦ refl ]
-
-pub sign-start : (bs : List ℕ) {rows : List D.Spelled} → 0 < length bs → Skips (get_or bs 0 0) rows → sign bs ≡ sign_in (left rows 0) bs
-sign-start [] h s = absurd (omega arith)
-sign-start (b ∷ rest) h s = s.finds rest
-
-module _ (bs : List ℕ) (rows : List D.Spelled) (i : ℕ) (e : sign bs ≡ sign_in (left rows i) bs) where
-  pub sign-end : length rows ≤ i → wrong 2 0 ≡ sign bs
-  unfolding sign_in
-  sign-end h = sym (e ∙ rw (left-end rows i h))
-
-  module _ (d : D.Spelled) (h : i < length rows) where
-    abbrev spelling : List ℕ
-    spelling = (slice_index_or rows i d).spelling.now
-
-    pub sign-found : true ≡ starts_with eqb bs spelling → as_sign (spelled_of (slice_index_or rows i d)) ≡ sign bs
-    sign-found t = sym (e ∙ rw (left-cons rows i d h, sign-cons, sym (begins-is spelling bs) ∙ sym t))
-
-    pub sign-next : false ≡ starts_with eqb bs spelling → sign bs ≡ sign_in (left rows (i + 1)) bs
-    sign-next t = e ∙ rw (left-cons rows i d h, sign-cons, sym (begins-is spelling bs) ∙ sym t)
 
 -- ---- the search of a word
 
@@ -172,5 +143,59 @@ pub spans : (c : ℕ) {byte : ℕ} (rows : List D.Spelled) → ((rest : List ℕ
     → byte ≡ c → Spans byte rows
 spans c rows h e = rw e (record { holds = h })
 
-pub skips : (c : ℕ) {byte : ℕ} (rows : List D.Spelled) → ((rest : List ℕ) → sign (c ∷ rest) ≡ sign_in (rows_of rows) (c ∷ rest)) → byte ≡ c → Skips byte rows
-skips c rows h e = rw e (record { finds = h })
+-- ---- the signs by first byte
+
+-- a sign by its first byte, by its first two, and by its first where the second is none of some
+pub sign-is : (c : ℕ) (bs : List ℕ) {e f : Element} → 0 < length bs → get_or bs 0 0 ≡ c → e ≡ f
+    → ((rest : List ℕ) → sign (c ∷ rest) ≡ f) → e ≡ sign bs
+sign-is c [] h q p f = absurd (omega arith)
+sign-is c (b ∷ rest) h q p f = p ∙ sym (rw q (f rest))
+
+pub sign-two : (c d : ℕ) (bs : List ℕ) {e f : Element} → 0 < d → get_or bs 0 0 ≡ c → get_or bs 1 0 ≡ d → e ≡ f
+    → ((rest : List ℕ) → sign (c ∷ d ∷ rest) ≡ f) → e ≡ sign bs
+sign-two c d [] h q r p f = absurd (omega arith)
+sign-two c d (b ∷ []) h q r p f = absurd (omega arith)
+sign-two c d (b ∷ x ∷ rest) h q r p f = p ∙ sym (rw (q, r) (f rest))
+
+pub sign-else : (c : ℕ) (ds bs : List ℕ) {e f : Element} → 0 < length bs → get_or bs 0 0 ≡ c → NoneOf ds (get_or bs 1 0) → e ≡ f
+    → sign (c ∷ []) ≡ f → ((x : ℕ) (rest : List ℕ) → NoneOf ds x → sign (c ∷ x ∷ rest) ≡ f) → e ≡ sign bs
+sign-else c ds [] h q n p o f = absurd (omega arith)
+sign-else c ds (b ∷ []) h q n p o f = p ∙ sym (rw q o)
+sign-else c ds (b ∷ x ∷ rest) h q n p o f = p ∙ sym (rw q (f x rest n))
+
+pub other : (c x : ℕ) → (x ≡ c → ⊥) → eqb c x ≡ false
+other c x n = ne_eqb c x (λ e. n (sym e))
+
+-- the first bytes of the signs
+abbrev heads : List ℕ
+heads = bytes "$:><~;,)(@!|&=/*-+"
+
+abbrev headed : Spelled → Bool
+headed s = member (get_or s.spelling 0 0) heads
+
+other-head : (ss : List ℕ) (byte : ℕ) (rest : List ℕ) → member (get_or ss 0 0) heads ≡ true → member byte heads ≡ false
+    → begins ss (byte ∷ rest) ≡ false
+unfolding begins member
+other-head [] byte rest t n = contradiction cc
+other-head (c ∷ cs) byte rest t n = by_cases (eqb c byte)
+    (λ e. let q : member byte heads ≡ true = rw (← eqb-true c byte e) t in contradiction cc) (λ e. rw e refl)
+
+sign-cons : (s : Spelled) (ss : List Spelled) (bs : List ℕ)
+    → sign_in (s ∷ ss) bs ≡ cond (begins s.spelling bs) (symbol s.kind 0 (length s.spelling)) (sign_in ss bs)
+unfolding sign_in
+sign-cons s ss bs = elim (begins s.spelling bs)
+    as (λ t. elim t [ true ↦ symbol s.kind 0 (length s.spelling) | false ↦ sign_in ss bs ]
+    ≡ cond t (symbol s.kind 0 (length s.spelling)) (sign_in ss bs))
+    [ true ↦ refl | false ↦ refl ]
+
+no-headed : (ss : List Spelled) (byte : ℕ) (rest : List ℕ) → every headed nothing ss ≡ true → member byte heads ≡ false
+    → sign_in ss (byte ∷ rest) ≡ wrong 2 0
+unfolding sign_in
+no-headed [] byte rest t n = refl
+no-headed (s ∷ ss) byte rest t n = let b = both_true (headed s) (every headed nothing ss) t in
+    rw (sign-cons s ss (byte ∷ rest), other-head s.spelling byte rest b.0 n) (no-headed ss byte rest b.1 n)
+
+pub no_sign : (bs : List ℕ) → 0 < length bs → NoneOf heads (get_or bs 0 0) → wrong 2 0 ≡ sign bs
+unfolding sign signs member
+no_sign [] h n = absurd (omega arith)
+no_sign (b ∷ rest) h n = sym (no-headed signs b rest refl (no_member heads b n))

@@ -1,7 +1,6 @@
--- The code's tables of spellings: the reserved words, by first letter, and the signs, in the definitions' order.
+-- The code's table of spellings: the reserved words, by first letter.
 use Rattle.std.specs.Prelude.{ℕ, suc, ◌≡◌, List, [], ◌∷◌, map, eqb, length}
 use Rattle.language.specs.Kinds.{Spelled}
-use Rattle.language.specs.Symbols.{sign_in, sign}
 use Rattle.language.specs.Candidates.{keep, candidates}
 use Rattle.symbols.specs.Kinds.{number_of}
 use Rattle.symbols.specs.declared.spellings.Spelled as D
@@ -22,7 +21,3 @@ of_length size (w ∷ ws) = keep (eqb (length w.spelling) size) w (of_length siz
 -- some rows, those of a length, are the candidates of a word that starts with a byte
 pub record Spans (byte : ℕ) (rows : List D.Spelled) : Type 0 where
   pub holds : (rest : List ℕ) → candidates (byte ∷ rest) ≡ of_length (suc (length rest)) (rows_of rows)
-
--- the signs that start with a byte are among some rows, in the definitions' order
-pub record Skips (byte : ℕ) (rows : List D.Spelled) : Type 0 where
-  pub finds : (rest : List ℕ) → sign (byte ∷ rest) ≡ sign_in (rows_of rows) (byte ∷ rest)

@@ -181,7 +181,7 @@ fn character_at(bytes: &[u8]) -> Result<Element, Wrong>
             if constant.characters == 0 {
                 return refused_here(Fault::QuotedLength);
             }
-            let value = text::value_at(bytes, 0, b'\'').unwrap_or(0);
+            let value = text::value_at(bytes, 0, b'\'');
             Ok(Element::Symbol {
                 kind: Kind::Number,
                 value: usize::from(value),

@@ -1,11 +1,11 @@
 // The words and signs by their spellings: which one stands at a place of a text.
 //
 // `kind_of` alone decides whether a word is reserved, and `sign_at` which sign stands at a place.
-ghost use Rattle.std.specs.Prelude.{◌<◌, ◌≡◌, length};
-ghost use Rattle.language.specs.Symbols.{kind_of, sign};
+ghost use Rattle.std.specs.Prelude.{◌<◌, ◌≡◌, length, get_or};
+ghost use Rattle.language.specs.Symbols.{kind_of, symbol, sign};
 ghost use Rattle.language.specs.Candidates.{compared};
 ghost use Rattle.symbols.specs.Kinds.{number_of};
-ghost use Rattle.symbols.specs.Spellings.{Spans, Skips};
+ghost use Rattle.symbols.specs.Spellings.{Spans};
 ghost use Rattle.symbols.specs.Answers.{element_of};
 
 use crate::Word;
@@ -13,7 +13,7 @@ use crate::elements::{Element, Wrong, refused_here};
 use crate::kinds::Kind;
 use text::Fault;
 
-// A reserved word or a sign.
+// A reserved word.
 #[derive(Clone, Copy)]
 pub(crate) struct Spelled {
     pub kind: Kind,
@@ -164,106 +164,6 @@ static WORDS: [Spelled; 35] = [
     },
 ];
 
-// The signs, those of two bytes first, so that the first one that fits is the longest.
-static SIGNS: [Spelled; 24] = [
-    Spelled {
-        kind: Kind::Unequal,
-        spelling: b"~=",
-    },
-    Spelled {
-        kind: Kind::AtMost,
-        spelling: b"<=",
-    },
-    Spelled {
-        kind: Kind::AtLeast,
-        spelling: b">=",
-    },
-    Spelled {
-        kind: Kind::Left,
-        spelling: b"<<",
-    },
-    Spelled {
-        kind: Kind::Right,
-        spelling: b">>",
-    },
-    Spelled {
-        kind: Kind::Assign,
-        spelling: b":=",
-    },
-    Spelled {
-        kind: Kind::Begin,
-        spelling: b"$(",
-    },
-    Spelled {
-        kind: Kind::End,
-        spelling: b"$)",
-    },
-    Spelled {
-        kind: Kind::Plus,
-        spelling: b"+",
-    },
-    Spelled {
-        kind: Kind::Minus,
-        spelling: b"-",
-    },
-    Spelled {
-        kind: Kind::Star,
-        spelling: b"*",
-    },
-    Spelled {
-        kind: Kind::Slash,
-        spelling: b"/",
-    },
-    Spelled {
-        kind: Kind::Equal,
-        spelling: b"=",
-    },
-    Spelled {
-        kind: Kind::Less,
-        spelling: b"<",
-    },
-    Spelled {
-        kind: Kind::More,
-        spelling: b">",
-    },
-    Spelled {
-        kind: Kind::Ampersand,
-        spelling: b"&",
-    },
-    Spelled {
-        kind: Kind::Bar,
-        spelling: b"|",
-    },
-    Spelled {
-        kind: Kind::Pling,
-        spelling: b"!",
-    },
-    Spelled {
-        kind: Kind::At,
-        spelling: b"@",
-    },
-    Spelled {
-        kind: Kind::Open,
-        spelling: b"(",
-    },
-    Spelled {
-        kind: Kind::Close,
-        spelling: b")",
-    },
-    Spelled {
-        kind: Kind::Comma,
-        spelling: b",",
-    },
-    Spelled {
-        kind: Kind::Semicolon,
-        spelling: b";",
-    },
-    Spelled {
-        kind: Kind::Colon,
-        spelling: b":",
-    },
-];
-
 // The reserved words that start with a byte.
 fn words_of(first: u8) -> &'static [Spelled]
     ensures { Spans first result.now }
@@ -316,30 +216,22 @@ pub(crate) fn kind_of(word: &[u8]) -> Word
     }
 }
 
-// The signs from the first on that starts with a byte, or from one before it.
-fn signs_of(first: u8) -> &'static [Spelled]
-    ensures { Skips first result.now }
+// A sign of so many bytes.
+fn sign_of(kind: Kind, width: usize) -> Result<Element, Wrong>
+    ensures { element_of result ≡ symbol (number_of kind) 0 width }
 {
-    match first {
-        b'<' => &SIGNS[1..],
-        b'>' => &SIGNS[2..],
-        b':' => &SIGNS[5..],
-        b'$' => &SIGNS[6..],
-        b'+' => &SIGNS[8..],
-        b'-' => &SIGNS[9..],
-        b'*' => &SIGNS[10..],
-        b'/' => &SIGNS[11..],
-        b'=' => &SIGNS[12..],
-        b'&' => &SIGNS[15..],
-        b'|' => &SIGNS[16..],
-        b'!' => &SIGNS[17..],
-        b'@' => &SIGNS[18..],
-        b'(' => &SIGNS[19..],
-        b')' => &SIGNS[20..],
-        b',' => &SIGNS[21..],
-        b';' => &SIGNS[22..],
-        _ => &SIGNS,
-    }
+    Ok(Element::Symbol {
+        kind,
+        value: 0,
+        width,
+    })
+}
+
+// The second byte; 0 where there is none, with which no sign goes on.
+fn second(bytes: &[u8]) -> u8
+    ensures { result ≡ get_or bytes.now 1 0 }
+{
+    bytes.get(1).copied().unwrap_or(0)
 }
 
 // The longest sign at the head.
@@ -347,14 +239,43 @@ pub(crate) fn sign_at(bytes: &[u8]) -> Result<Element, Wrong>
     requires { 0 < length bytes.now }
     ensures { element_of result ≡ sign bytes.now }
 {
-    for row in signs_of(bytes[0]) {
-        if bytes.starts_with(row.spelling) {
-            return Ok(Element::Symbol {
-                kind: row.kind,
-                value: 0,
-                width: row.spelling.len(),
-            });
-        }
+    match bytes[0] {
+        b'+' => sign_of(Kind::Plus, 1),
+        b'-' => sign_of(Kind::Minus, 1),
+        b'*' => sign_of(Kind::Star, 1),
+        b'/' => sign_of(Kind::Slash, 1),
+        b'=' => sign_of(Kind::Equal, 1),
+        b'&' => sign_of(Kind::Ampersand, 1),
+        b'|' => sign_of(Kind::Bar, 1),
+        b'!' => sign_of(Kind::Pling, 1),
+        b'@' => sign_of(Kind::At, 1),
+        b'(' => sign_of(Kind::Open, 1),
+        b')' => sign_of(Kind::Close, 1),
+        b',' => sign_of(Kind::Comma, 1),
+        b';' => sign_of(Kind::Semicolon, 1),
+        b'~' => match second(bytes) {
+            b'=' => sign_of(Kind::Unequal, 2),
+            _ => refused_here(Fault::NoSymbol),
+        },
+        b'<' => match second(bytes) {
+            b'=' => sign_of(Kind::AtMost, 2),
+            b'<' => sign_of(Kind::Left, 2),
+            _ => sign_of(Kind::Less, 1),
+        },
+        b'>' => match second(bytes) {
+            b'=' => sign_of(Kind::AtLeast, 2),
+            b'>' => sign_of(Kind::Right, 2),
+            _ => sign_of(Kind::More, 1),
+        },
+        b':' => match second(bytes) {
+            b'=' => sign_of(Kind::Assign, 2),
+            _ => sign_of(Kind::Colon, 1),
+        },
+        b'$' => match second(bytes) {
+            b'(' => sign_of(Kind::Begin, 2),
+            b')' => sign_of(Kind::End, 2),
+            _ => refused_here(Fault::NoSymbol),
+        },
+        _ => refused_here(Fault::NoSymbol),
     }
-    refused_here(Fault::NoSymbol)
 }

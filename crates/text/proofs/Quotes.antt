@@ -7,7 +7,7 @@ use Rattle.laws.proofs.Cases.{by_cases, either, contradiction, both_true}
 use Rattle.text.proofs.Bytes.{Unlike}
 use Rattle.text.specs.Quoted.{Character, is, closing, ended, mistake, digit, number_of, by_digits, by_number, escape, character}
 use Rattle.text.specs.Quoted.{Quoted, closed, unclosed, faulty, wider, after, fault_before, on_character, quoted}
-use Rattle.text.specs.Parts.{value_of, is_closed, widened}
+use Rattle.text.specs.Parts.{value_of, value_if, is_closed, widened}
 
 -- ---- the character at the head, by the head
 
@@ -267,11 +267,11 @@ abbrev pub first : List ℕ → Option ℕ
 first [] = None
 first (c ∷ cs) = Some c
 
-pub first-is : (quote room : ℕ) (bytes : List ℕ) {cs : List ℕ} {w : ℕ} → quoted quote room 0 bytes ≡ closed cs w
-    → value_of (character quote bytes) ≡ first cs
+pub first-if : (quote room : ℕ) (bytes : List ℕ) {cs : List ℕ} {w : ℕ} → quoted quote room 0 bytes ≡ closed cs w
+    → value_if (character quote bytes) ≡ first cs
 unfolding quoted character
-first-is quote room [] e = contradiction cc
-first-is quote room (b ∷ r) {cs} {w} e = by (character quote (b ∷ r)) room e
+first-if quote room [] e = contradiction cc
+first-if quote room (b ∷ r) {cs} {w} e = by (character quote (b ∷ r)) room e
   where
     after_first : (v : ℕ) (q : Quoted) → after v q ≡ closed cs w → Some v ≡ first cs
     after_first v = elim [ closed ds n ↦ λ k. let e : v ∷ ds ≡ cs = cc in ap first e | unclosed ↦ λ k. contradiction cc | faulty number n ↦ λ k. contradiction cc ]
@@ -279,12 +279,20 @@ first-is quote room (b ∷ r) {cs} {w} e = by (character quote (b ∷ r)) room e
     no-fault : {A : Type 0} (number : ℕ) (q : Quoted) → fault_before number q ≡ closed cs w → A
     no-fault number = elim [ closed ds n ↦ λ k. contradiction cc | unclosed ↦ λ k. contradiction cc | faulty j n ↦ λ k. contradiction cc ]
 
-    by : (ch : Character) (room : ℕ) → on_character ch room (λ a k. quoted quote a k r) ≡ closed cs w → value_of ch ≡ first cs
+    by : (ch : Character) (room : ℕ) → on_character ch room (λ a k. quoted quote a k r) ≡ closed cs w → value_if ch ≡ first cs
     by (is v n) (suc a) k = after_first v (quoted quote a (n - 1) r) k
     by (is v n) zero k = no-fault 43 (quoted quote 0 (n - 1) r) k
     by closing room k = let e : [] ≡ cs = cc in ap first e
     by ended room k = contradiction cc
     by (mistake number) room k = no-fault number (quoted quote room 0 r) k
+
+-- the first of its characters
+pub first-is : (quote room : ℕ) (bytes : List ℕ) {c : ℕ} {cs : List ℕ} {w : ℕ} → quoted quote room 0 bytes ≡ closed (c ∷ cs) w
+    → value_of (character quote bytes) ≡ c
+first-is quote room bytes {c} e = given (character quote bytes) (first-if quote room bytes e)
+  where
+    given : (ch : Character) → value_if ch ≡ Some c → value_of ch ≡ c
+    given = elim [ is v n ↦ λ k. cc | closing ↦ λ k. contradiction cc | ended ↦ λ k. contradiction cc | mistake number ↦ λ k. contradiction cc ]
 
 -- ---- a constant that is closed is so in any room for its characters
 

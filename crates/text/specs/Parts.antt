@@ -2,12 +2,19 @@
 use Rattle.std.specs.Prelude.{ℕ, ◌+◌, Option, Some, None, Bool, true, false}
 use Rattle.text.specs.Quoted.{Character, is, closing, ended, mistake, Quoted, closed, unclosed, faulty}
 
--- a character's value
-abbrev pub value_of : Character → Option ℕ
-value_of (is v width) = Some v
-value_of closing = None
-value_of ended = None
-value_of (mistake number) = None
+-- a character's value; 0 where there is none
+abbrev pub value_of : Character → ℕ
+value_of (is v width) = v
+value_of closing = 0
+value_of ended = 0
+value_of (mistake number) = 0
+
+-- a character's value, if there is one
+abbrev pub value_if : Character → Option ℕ
+value_if (is v width) = Some v
+value_if closing = None
+value_if ended = None
+value_if (mistake number) = None
 
 -- whether the closing quote comes, with a fault before it or not
 abbrev pub is_closed : Quoted → Bool

@@ -7,7 +7,7 @@ ghost use Rattle.std.specs.Prelude.{◌≡◌, ◌==◌, Some, Err, count_by, dr
 ghost use Rattle.text.specs.Faults.{number_of};
 ghost use Rattle.text.specs.Line.{line_of, refusal, refusal_text};
 ghost use Rattle.text.specs.Quoted.{by_digits, by_number, escape, character, fault_before, quoted};
-ghost use Rattle.text.specs.Parts.{value_of, is_closed, widened};
+ghost use Rattle.text.specs.Parts.{value_of, value_if, is_closed, widened};
 ghost use Rattle.text.specs.Answers.{as_written, found, counted};
 
 pub use faults::{Fault, UnknownNumber};
@@ -141,9 +141,19 @@ pub fn character_at(text: &[u8], at: usize, quote: u8) -> Character
     }
 }
 
-// The value of the character at a place between quotes, if one stands there.
-pub fn value_at(text: &[u8], at: usize, quote: u8) -> Option<u8>
+// The value of the character at a place between quotes; 0 where there is none.
+pub fn value_at(text: &[u8], at: usize, quote: u8) -> u8
     ensures { result ≡ value_of (character quote (drop at text.now)) }
+{
+    match character_at(text, at, quote) {
+        Character::Is(value, _) => value,
+        _ => 0,
+    }
+}
+
+// The same, if a character stands there.
+pub fn value_if_at(text: &[u8], at: usize, quote: u8) -> Option<u8>
+    ensures { result ≡ value_if (character quote (drop at text.now)) }
 {
     match character_at(text, at, quote) {
         Character::Is(value, _) => Some(value),

@@ -1,5 +1,5 @@
 use Rattle.laws.proofs.Basics.{sym, ◌∙◌}
-use Rattle.compiler.proofs.Scoping.{bytes-test, other_last}
+use Rattle.compiler.proofs.Scoping.{other_last}
 use Rattle.compiler.proofs.scope.alike.Goals as goal
 
 pub returns-then-last_byte-last : goal.returns-then-last_byte-last
@@ -7,4 +7,4 @@ returns-then-last_byte-last c = other_last c.args.source.now c.args.p c.args.q c
     (λ e. c.if-last_byte-last.true (c.last_byte.ensures ∙ e ∙ sym c.requires.3))
 
 pub returns : goal.returns
-returns c = rw (← c.part.ensures, ← c.part-2.ensures) (bytes-test _ _ c.eq.ensures)
+returns c = rw (← c.part.ensures, ← c.part-2.ensures) c.same.ensures

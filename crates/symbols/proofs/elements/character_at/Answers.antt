@@ -21,7 +21,7 @@ returns-then-constant-eq0 c = rw c.refused_here.ensures
 
 pub returns-else-constant-eq0 : goal.returns-else-constant-eq0
 returns-else-constant-eq0 c = a-character c.args.bytes.now (when-closed _ (ap found (sym c.in-Ok.is) ∙ c.quoted_at.ensures)) c.if-constant-eq0.false
-    c.value_at.ensures (c.from.ensures ∙ c.unwrap_or-value.ensures)
+    (c.from.ensures ∙ c.value_at-value.ensures)
 
 pub returns-in-Err-Unclosed : goal.returns-in-Err-Unclosed
 returns-in-Err-Unclosed c = rw c.refused_here-in-Err-Unclosed.ensures (character-unclosed c.args.bytes.now (when-unclosed _ (sym (ap found (c.in-Err-Unclosed.is ∙ ap Err c.in-Err-Unclosed.field-0-is)) ∙ c.quoted_at.ensures)))
