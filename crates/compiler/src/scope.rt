@@ -80,7 +80,16 @@ fn same(a: &[u8], b: &[u8]) -> bool
     true
 }
 
-// Whether so many bytes at two places of the source are the same: `last` is the last byte at `q`.
+// The same of so many bytes at two places of the source, where one may reach past its end.
+#[cold]
+#[inline(never)]
+fn cut(source: &[u8], p: usize, q: usize, n: usize) -> bool
+    ensures { result ≡ same_bytes (take n (drop p source.now)) (take n (drop q source.now)) }
+{
+    same(part(source, p, n), part(source, q, n))
+}
+
+// The same, quick where both stand in the source: `last` is the last byte at `q`.
 fn alike(source: &[u8], p: usize, q: usize, n: usize, last: u8) -> bool
     requires { (p < 2 ^ 32) × (q < 2 ^ 32) × (n < 2 ^ 32) × (last ≡ get_or source.now (q + (n - 1)) 0) }
     ensures { result ≡ same_bytes (take n (drop p source.now)) (take n (drop q source.now)) }
@@ -88,7 +97,10 @@ fn alike(source: &[u8], p: usize, q: usize, n: usize, last: u8) -> bool
     if n > 0 && last_byte(source, p, n) != last {
         return false;
     }
-    same(part(source, p, n), part(source, q, n))
+    let (Some(a), Some(b)) = (source.get(p..p + n), source.get(q..q + n)) else {
+        return cut(source, p, q, n);
+    };
+    same(a, b)
 }
 
 // Whether a name of the stack is spelt like one of that place, width and last byte.
